@@ -1,0 +1,75 @@
+-- `calling::stepping::call` meets its contract: judged, then decoded, then stepped.
+-- Assumes nothing.
+use borrow.Author.Needs.{needs}
+use mathlib.Core.Path.{_≡_, sym, _∙_}
+use Rattle.rules.specs.Calls.{numbers, InRange}
+use Rattle.rules.specs.Refusals.{judgeRefusal}
+use Rattle.rules.specs.Entries.{decoded}
+use Rattle.rules.specs.declared.Decoded.{Decoded}
+use Rattle.rules.specs.declared.Decoded.the-variants.{Is, Not}
+use Rattle.rules.proofs.Refusals.{judgeRefusal-iff}
+use Rattle.rules.proofs.Numbers.{decoded-in-range, ran-is, ran-not, called-unjudged}
+use Rattle.rules.proofs.Entries.{called-judged}
+use Rattle.rules.proofs.Turns.{turn-answer, turn-file, turn-put}
+use Rattle.calling.proofs.stepping.call.Statement.{statement}
+use Rattle.calling.proofs.stepping.call.Tie as tie
+
+judge-requires : tie.Need-judge-requires
+judge-requires c κs = search needs
+
+returns : tie.Need-returns
+returns c =
+    let e = c .before .judge .ensures in
+    rw (called-unjudged _ _ _ (λ z. c .if1 .taken (e ∙ z))) (simp e)
+
+decode-requires : tie.Need-decode-requires
+decode-requires c κs = search needs
+
+enum-known-decoded : tie.Need-enum-known-decoded
+enum-known-decoded c = search needs
+
+enum-known-decoded-2 : tie.Need-enum-known-decoded-2
+enum-known-decoded-2 c = search needs
+
+-- once nothing is held against the setup and the store, the call is what its numbers are
+judged : (c : tie.Else1) → judgeRefusal (c .before .before .args .setup) (c .before .before .args .store) ≡ 0
+judged c = sym (c .before .judge .ensures) ∙ c .if1 .left
+
+abbrev Numbered : tie.After-decode → Decoded → Type 0
+Numbered c d = let a = c .before .before .before .args in decoded (a .setup) (numbers (a .op) (a .p) (a .f) (a .x)) ≡ d
+
+found : (c : tie.After-decoded2) → Numbered (c .before .before) (Is (c .decoded2 .given .0 .0))
+found c = sym (c .before .before .decode .ensures) ∙ c .decoded2 .given .1
+
+in-range : (c : tie.After-decoded2) → InRange (c .decoded2 .given .0 .0)
+in-range c = decoded-in-range _ _ _ (judgeRefusal-iff _ _ .0 (judged (c .before .before .before)) .0) (found c)
+
+step-requires : tie.Need-step-requires
+step-requires c κs = in-range (c .before)
+
+with-sheet-requires : tie.Need-with-sheet-requires
+with-sheet-requires c κs = rw (c .before .step .ensures, turn-file) (in-range (c .before .before .before) .2)
+
+returns-2 : tie.Need-returns-2
+returns-2 c =
+    let d : Numbered (c .before .before .before) (Not (c .before .decoded .given .0 .0)) = sym (c .before .before .before .decode .ensures) ∙ c .before .decoded .given .1 in
+    rw (called-judged _ _ _ (judged (c .before .before .before .before)), ran-not _ _ _ _ d)
+
+returns-3 : tie.Need-returns-3
+returns-3 c =
+    rw (called-judged _ _ _ (judged (c .before .before .before .before .before .before .before)), ran-is _ _ _ _ (found (c .before .before .before .before)))
+    (simp (c .with-sheet .ensures, c .before .before .step .ensures, turn-answer, turn-put))
+
+pub call-spec : {M : Type 1} → statement M
+call-spec =
+    tie.close
+    (tie.spec
+    judge-requires
+    returns
+    decode-requires
+    enum-known-decoded
+    enum-known-decoded-2
+    step-requires
+    with-sheet-requires
+    returns-2
+    returns-3)

@@ -1,0 +1,3 @@
+// One call: four numbers decoded, the rule of each code, and the entry.
+pub mod decoding;
+pub mod stepping;

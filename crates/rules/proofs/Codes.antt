@@ -1,0 +1,37 @@
+-- Laws of the call that four numbers are: its process, its files, and what it is to exist.
+-- Assumes nothing.
+use Prim.Native.Nat.{ℕ, _-_, _<_}
+use mathlib.Core.Path.{_≡_, sym, _∙_, subst}
+use mathlib.Core.List.{map}
+use native.Mathlib.Omega.{arith}
+use lib.ListN.{getD, replicate, List·getD-map}
+use Rattle.rules.specs.Calls.{Numbers, calls, codes, codeOfCopy, callOf, processOf, fileOf, changeable}
+use Rattle.rules.specs.declared.Setup.{Setup}
+use Rattle.rules.specs.declared.Call.{Call}
+use Rattle.rules.specs.declared.Call.the-variants.{Read}
+use Rattle.rules.proofs.Lists.{set-holds, getD-alike}
+
+-- a call's process exists, and so does each file that it names
+pub record Exists (s : Setup) (c : Call) : Type 0 where
+  pub process : processOf c < s .processes
+  pub file : fileOf c < s .files
+  pub changed : changeable c < s .files
+
+-- a part of the call that numbers are is that part of the call of their code
+callOf-part : (part : Call → ℕ) (n : Numbers) → getD (map part (calls (n .process) (n .file) (n .extra))) (n .operation - 1) (part (Read (n .process) (n .file))) ≡ part (callOf n)
+unfolding callOf
+callOf-part part n = List·getD-map part (calls (n .process) (n .file) (n .extra)) (n .operation - 1) (Read (n .process) (n .file))
+
+-- the second number is the call's process, and the third its file f
+pub processOf-callOf : (n : Numbers) → processOf (callOf n) ≡ n .process
+processOf-callOf n = sym (callOf-part processOf n) ∙ getD-alike codes (n .operation - 1) (n .process)
+
+pub fileOf-callOf : (n : Numbers) → fileOf (callOf n) ≡ n .file
+fileOf-callOf n = sym (callOf-part fileOf n) ∙ getD-alike codes (n .operation - 1) (n .file)
+
+-- what holds of the third number, and of the fourth for COPY, holds of the file that the call can change
+pub changeable-holds {ℓ} : (P : ℕ → Type ℓ) (n : Numbers) → P (n .file) → (n .operation ≡ codeOfCopy → P (n .extra)) → P (changeable (callOf n))
+changeable-holds P n h k =
+    subst P (callOf-part changeable n)
+    (set-holds P (replicate codes (n .file)) (codeOfCopy - 1) (n .operation - 1) (n .extra) (n .file)
+    (subst P (sym (getD-alike codes (n .operation - 1) (n .file))) h) (λ e. k (omega arith)))

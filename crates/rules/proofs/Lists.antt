@@ -1,0 +1,49 @@
+-- Laws of tests, choices and lists that the laws of the rules share.
+-- Assumes nothing.
+use Prim.Native.Nat.{ℕ, zero, suc}
+use mathlib.Core.Path.{_≡_, refl, ap}
+use mathlib.Core.Bool.{Bool, true, false, _&&_, _||_, cond, true≢false, false≢true}
+use mathlib.Core.Logic.{_↔_}
+use mathlib.Core.List.{List, [], _∷_}
+use lib.ListN.{getD, set, replicate}
+
+-- what follows from a test's passing and from its failing follows
+pub by-test {ℓ} : {C : Type ℓ} (b : Bool) → (b ≡ true → C) → (b ≡ false → C) → C
+by-test true f g = f refl
+by-test false f g = g refl
+
+-- what holds of both sides of a choice, each under its test, holds of the choice
+pub cond-holds {ℓ κ} : {A : Type ℓ} (P : A → Type κ) (b : Bool) {x y : A} → (b ≡ true → P x) → (b ≡ false → P y) → P (cond b x y)
+cond-holds P true f g = f refl
+cond-holds P false f g = g refl
+
+-- four tests joined pass exactly where each does
+pub all-four : (a b c d : Bool) → (a && b && c && d ≡ true) ↔ ((a ≡ true) × (b ≡ true) × (c ≡ true) × (d ≡ true))
+all-four true true true d = (λ e. (refl, refl, refl, e), λ h. h .3)
+all-four true true false d = (λ e. absurd (false≢true e), λ h. h .2)
+all-four true false c d = (λ e. absurd (false≢true e), λ h. h .1)
+all-four false b c d = (λ e. absurd (false≢true e), λ h. h .0)
+
+-- not one of two tests passes exactly where both fail
+pub neither : (a b : Bool) → (a || b ≡ false) ↔ ((a ≡ false) × (b ≡ false))
+neither true b = (λ e. absurd (true≢false e), λ h. h .0)
+neither false b = (λ e. (refl, e), λ h. h .1)
+
+-- two tests do not both pass exactly where the second fails if the first passes
+pub not-both : (a b : Bool) → (a && b ≡ false) ↔ (a ≡ true → b ≡ false)
+not-both true b = (λ e t. e, λ h. h refl)
+not-both false b = (λ e t. absurd (false≢true t), λ h. refl)
+
+-- what holds of the entry that stood there, and of the new one at its own place, holds after the new one is set
+pub set-holds {ℓ κ} : {A : Type ℓ} (P : A → Type κ) (l : List A) (i j : ℕ) (a d : A) → P (getD l j d) → (j ≡ i → P a) → P (getD (set l i a) j d)
+set-holds P [] i j a d p h = p
+set-holds P (x ∷ l) zero zero a d p h = h refl
+set-holds P (x ∷ l) zero (suc j) a d p h = p
+set-holds P (x ∷ l) (suc i) zero a d p h = p
+set-holds P (x ∷ l) (suc i) (suc j) a d p h = set-holds P l i j a d p (λ e. h (ap suc e))
+
+-- a list of one entry only has it at every place, and past its end where it stands in for what is missing
+pub getD-alike {ℓ} : {A : Type ℓ} (n i : ℕ) (a : A) → getD (replicate n a) i a ≡ a
+getD-alike zero i a = refl
+getD-alike (suc n) zero a = refl
+getD-alike (suc n) (suc i) a = getD-alike n i a

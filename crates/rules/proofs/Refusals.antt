@@ -1,0 +1,221 @@
+-- Laws of refusals: when none is given, and what an order of refusals depends on.
+-- Assumes nothing.
+use Prim.Native.Nat.{ℕ, zero, suc, _+_, _*_, _<_, _≤_}
+use mathlib.Core.Path.{_≡_, refl, ap, sym, _∙_}
+use mathlib.Core.Bool.{Bool, true, false, not, _&&_, _||_, cond, and-eq-true-iff, true≢false}
+use mathlib.Core.Logic.{_↔_, _≢_}
+use mathlib.Core.List.{List, [], _∷_, _++_}
+use native.Mathlib.Omega.{arith}
+use borrow.Author.Tests.{ltb-false, leb-true, leb-false, eqb-true, eqb-false, not-true, not-false, lt-ltb, le-ltb, lt-leb, eq-eqb, ne-eqb}
+use lib.Dec.{ltb, leb, eqb}
+use lib.ListN.{length, getD}
+use Rattle.rules.specs.Sizes.{least, every, some-below}
+use Rattle.rules.specs.Setups.{SetupBytes, rightBoth, entryFits, accepted}
+use Rattle.rules.specs.Stores.{fits}
+use Rattle.rules.specs.Calls.{Numbers, codes, codeOfWrite, codeOfCopy, callOf}
+use Rattle.rules.specs.Refusals.{Order, _gives_then_, firstOf, countOutside, slicesMatch, someFrom, setupOrder, setupRefusal, setupFirst, storeNext, numbersLast, callRefusal, freshRefusal, judgeRefusal, numbersRefusal}
+use Rattle.rules.specs.Entries.{unless}
+use Rattle.rules.specs.declared.Setup.{Setup}
+use Rattle.rules.specs.declared.Store.{Store}
+use Rattle.rules.proofs.Lists.{by-test, neither, not-both}
+use Rattle.rules.proofs.Sizes.{every-at, every-true, every-cong}
+use Rattle.rules.proofs.Setups.{WithinSizes, withinSizes-iff}
+use Rattle.rules.proofs.Codes.{Exists, processOf-callOf, fileOf-callOf, changeable-holds}
+
+-- each number of an order is a refusal's, and not the 0 of none
+abbrev pub Numbered : Order → Type 0
+Numbered [] = Unit {0}
+Numbered (r ∷ rs) = (0 < r .1) × Numbered rs
+
+-- no condition of an order holds
+abbrev pub Unmet : Order → Type 0
+Unmet [] = Unit {0}
+Unmet (r ∷ rs) = (r .0 ≡ false) × Unmet rs
+
+-- an order gives 0 exactly where none of its conditions holds
+pub unmet-iff : (order : Order) → Numbered order → (firstOf order ≡ 0) ↔ Unmet order
+unmet-iff [] h = (λ e. tt, λ u. refl)
+unmet-iff (r ∷ rs) h = first (r .0) (r .1) (h .0) (unmet-iff rs (h .1))
+  where
+    first : (b : Bool) (n : ℕ) → 0 < n → (firstOf rs ≡ 0) ↔ Unmet rs → (cond b n (firstOf rs) ≡ 0) ↔ ((b ≡ false) × Unmet rs)
+    first true n l i = (λ e. absurd (omega arith), λ u. absurd (true≢false (u .0)))
+    first false n l i = (λ e. (refl, i .0 e), λ u. i .1 (u .1))
+
+-- one order after another: the second is looked at only where the first gives none
+pub firstOf-append : (order next : Order) → Numbered order → firstOf (order ++ next) ≡ unless (firstOf order) (firstOf next) (firstOf order)
+firstOf-append [] next h = refl
+firstOf-append (r ∷ rs) next h = first (r .0) (r .1) (h .0) (firstOf-append rs next (h .1))
+  where
+    first : (b : Bool) (n : ℕ) → 0 < n → firstOf (rs ++ next) ≡ unless (firstOf rs) (firstOf next) (firstOf rs)
+        → cond b n (firstOf (rs ++ next)) ≡ unless (cond b n (firstOf rs)) (firstOf next) (cond b n (firstOf rs))
+    first true zero l e = absurd (omega arith)
+    first true (suc n) l e = refl
+    first false n l e = e
+
+-- a call is judged after its setup and its store
+pub callRefusal-after : (s : Setup) (m : Store) (n : Numbers) → callRefusal s m n ≡ unless (judgeRefusal s m) (numbersRefusal s n) (judgeRefusal s m)
+unfolding callRefusal judgeRefusal numbersRefusal
+callRefusal-after s m n = firstOf-append (setupFirst s (storeNext s m [])) (numbersLast s n) (omega arith)
+
+-- nothing is held against a setup and a store exactly where the one is accepted and the other fits it
+pub judgeRefusal-iff : (s : Setup) (m : Store) → (judgeRefusal s m ≡ 0) ↔ ((accepted s ≡ true) × (fits s m ≡ true))
+unfolding judgeRefusal
+judgeRefusal-iff s m =
+    let i = unmet-iff (setupFirst s (storeNext s m [])) (omega arith) in (
+      λ e. (not-false (accepted s) (i .0 e .0), not-false (fits s m) (i .0 e .1 .0)),
+      λ h. i .1 (ap not (h .0), (ap not (h .1), tt)),
+    )
+
+-- and nothing against a setup alone exactly where it is accepted
+pub freshRefusal-iff : (s : Setup) → (freshRefusal s ≡ 0) ↔ (accepted s ≡ true)
+unfolding freshRefusal
+freshRefusal-iff s =
+    let i = unmet-iff (setupFirst s []) (omega arith) in
+    (λ e. not-false (accepted s) (i .0 e .0), λ h. i .1 (ap not h, tt))
+
+-- no refusal is given for a call exactly where none is given for its setup and store, and none for its numbers
+pub callRefusal-iff : (s : Setup) (m : Store) (n : Numbers) → (callRefusal s m n ≡ 0) ↔ ((judgeRefusal s m ≡ 0) × (numbersRefusal s n ≡ 0))
+callRefusal-iff s m n = rw callRefusal-after (both (judgeRefusal s m))
+  where
+    both : (judged : ℕ) → (unless judged (numbersRefusal s n) judged ≡ 0) ↔ ((judged ≡ 0) × (numbersRefusal s n ≡ 0))
+    both zero = (λ e. (refl, e), λ h. h .1)
+    both (suc j) = (λ e. absurd (omega arith), λ h. h .0)
+
+-- once the setup and the store are judged, a refusal depends on the setup and the call alone
+pub callRefusal-judged : (s : Setup) (m : Store) (n : Numbers) → judgeRefusal s m ≡ 0 → callRefusal s m n ≡ numbersRefusal s n
+callRefusal-judged s m n e = callRefusal-after s m n ∙ rw e
+
+pub callRefusal-alike : (s : Setup) (m m′ : Store) (n : Numbers) → accepted s ≡ true → fits s m ≡ true → fits s m′ ≡ true → callRefusal s m n ≡ callRefusal s m′ n
+callRefusal-alike s m m′ n a f f′ = callRefusal-judged s m n (judgeRefusal-iff s m .1 (a, f)) ∙ sym (callRefusal-judged s m′ n (judgeRefusal-iff s m′ .1 (a, f′)))
+
+-- numbers that are a call whose process and files exist, with no extra where it has none and no COPY onto itself
+pub record Sound (s : Setup) (n : Numbers) : Type 0 where
+  pub first-code : least ≤ n .operation
+  pub last-code : n .operation ≤ codes
+  pub process : n .process < s .processes
+  pub file : n .file < s .files
+  pub target : n .operation ≡ codeOfCopy → n .extra < s .files
+  pub idle : n .operation ≢ codeOfWrite → n .operation ≢ codeOfCopy → n .extra ≡ 0
+  pub apart : n .operation ≡ codeOfCopy → n .extra ≢ n .file
+
+-- no refusal is given for numbers exactly where they are sound
+pub numbersRefusal-iff : (s : Setup) (n : Numbers) → (numbersRefusal s n ≡ 0) ↔ Sound s n
+unfolding numbersRefusal
+numbersRefusal-iff s n =
+    let i = unmet-iff (numbersLast s n) (omega arith) in
+    let write = eqb (n .operation) codeOfWrite in
+    let copy = eqb (n .operation) codeOfCopy in
+    let code = neither (ltb (n .operation) least) (ltb codes (n .operation)) in
+    let file = neither (leb (s .files) (n .file)) (copy && leb (s .files) (n .extra)) in
+    let target = not-both copy (leb (s .files) (n .extra)) in
+    let with-extra = neither write copy in
+    let idle = not-both (not (write || copy)) (not (eqb (n .extra) 0)) in
+    let apart = not-both copy (eqb (n .extra) (n .file)) in (
+      λ e.
+          let u = i .0 e in
+          record {
+            first-code = ltb-false (n .operation) least (code .0 (u .0) .0);
+            last-code = ltb-false codes (n .operation) (code .0 (u .0) .1);
+            process = leb-false (s .processes) (n .process) (u .1 .0);
+            file = leb-false (s .files) (n .file) (file .0 (u .1 .1 .0) .0);
+            target = λ q. leb-false (s .files) (n .extra) (target .0 (file .0 (u .1 .1 .0) .1) (eq-eqb (n .operation) codeOfCopy q));
+            idle =
+                λ w c.
+                eqb-true (n .extra) 0
+                (not-false _
+                (idle .0 (u .1 .1 .1 .0) (ap not (with-extra .1 (ne-eqb (n .operation) codeOfWrite w, ne-eqb (n .operation) codeOfCopy c)))));
+            apart = λ q. eqb-false (n .extra) (n .file) (apart .0 (u .1 .1 .1 .1 .0) (eq-eqb (n .operation) codeOfCopy q));
+          },
+      λ h.
+          i .1 (
+            code .1 (le-ltb (n .operation) least (h .first-code), le-ltb codes (n .operation) (h .last-code)),
+            (
+              lt-leb (s .processes) (n .process) (h .process),
+              (
+                file .1 (
+                  lt-leb (s .files) (n .file) (h .file),
+                  target .1 (λ t. lt-leb (s .files) (n .extra) (h .target (eqb-true (n .operation) codeOfCopy t))),
+                ),
+                (
+                  idle .1
+                      (λ t.
+                      let none = with-extra .0 (not-true (write || copy) t) in
+                      ap not
+                      (eq-eqb (n .extra) 0
+                      (h .idle (eqb-false (n .operation) codeOfWrite (none .0)) (eqb-false (n .operation) codeOfCopy (none .1))))),
+                  (apart .1 (λ t. ne-eqb (n .extra) (n .file) (h .apart (eqb-true (n .operation) codeOfCopy t))), tt),
+                ),
+              ),
+            ),
+          ),
+    )
+
+-- where no refusal is given, the call's process and files exist
+pub numbers-exist : (s : Setup) (n : Numbers) → numbersRefusal s n ≡ 0 → Exists s (callOf n)
+numbers-exist s n e =
+    let h = numbersRefusal-iff s n .0 e in
+    record {
+      process = rw processOf-callOf (h .process);
+      file = rw fileOf-callOf (h .file);
+      changed = changeable-holds (λ (g : ℕ). g < s .files) n (h .file) (h .target);
+    }
+
+-- no entry of a slice is its bound or more exactly where each is below it
+pub someFrom-iff : (bound : ℕ) (entries : List ℕ) → (someFrom bound entries ≡ false) ↔ ((i : ℕ) → i < length entries → getD entries i 0 < bound)
+unfolding someFrom some-below
+someFrom-iff bound entries = (
+  λ e i l. leb-false bound (getD entries i 0) (not-true (leb bound (getD entries i 0)) (every-at (length entries) _ (not-false _ e) i l)),
+  λ h. ap not (every-true (length entries) (λ i. not (leb bound (getD entries i 0))) (λ i l. ap not (lt-leb bound (getD entries i 0) (h i l)))),
+)
+
+-- bytes whose counts, lengths and entries lie inside their sizes
+pub record SoundBytes (b : SetupBytes) : Type 0 where
+  pub sizes : WithinSizes (b .desks) (b .classes) (b .processes) (b .files)
+  pub rights-length : length (b .rights) ≡ b .desks * b .classes
+  pub desk-length : length (b .desk) ≡ b .processes
+  pub class-length : length (b .class) ≡ b .files
+  pub right-lt : (i : ℕ) → i < length (b .rights) → getD (b .rights) i 0 < rightBoth + 1
+  pub desk-lt : (i : ℕ) → i < length (b .desk) → getD (b .desk) i 0 < b .desks
+  pub class-lt : (i : ℕ) → i < length (b .class) → getD (b .class) i 0 < b .classes
+
+-- no refusal is given for bytes exactly where they are sound
+pub setupRefusal-iff : (b : SetupBytes) → (setupRefusal b ≡ 0) ↔ SoundBytes b
+unfolding setupRefusal slicesMatch
+setupRefusal-iff b =
+    let i = unmet-iff (setupOrder b) (omega arith) in
+    let sizes = withinSizes-iff (b .desks) (b .classes) (b .processes) (b .files) in
+    let rights = eqb (length (b .rights)) (b .desks * b .classes) in
+    let desk = eqb (length (b .desk)) (b .processes) in
+    let class = eqb (length (b .class)) (b .files) in
+    let two = and-eq-true-iff rights desk in
+    let three = and-eq-true-iff (rights && desk) class in
+    let right-lt = someFrom-iff (rightBoth + 1) (b .rights) in
+    let desk-lt = someFrom-iff (b .desks) (b .desk) in
+    let class-lt = someFrom-iff (b .classes) (b .class) in (
+      λ e.
+          let u = i .0 e in
+          let m = three .0 (not-false (slicesMatch b) (u .1 .0)) in
+          record {
+            sizes = sizes .0 (not-false _ (u .0));
+            rights-length = eqb-true (length (b .rights)) (b .desks * b .classes) (two .0 (m .0) .0);
+            desk-length = eqb-true (length (b .desk)) (b .processes) (two .0 (m .0) .1);
+            class-length = eqb-true (length (b .class)) (b .files) (m .1);
+            right-lt = right-lt .0 (u .1 .1 .0);
+            desk-lt = desk-lt .0 (u .1 .1 .1 .0);
+            class-lt = class-lt .0 (u .1 .1 .1 .1 .0);
+          },
+      λ h.
+          let matched : slicesMatch b ≡ true = three .1 (two .1 (eq-eqb _ _ (h .rights-length), eq-eqb _ _ (h .desk-length)), eq-eqb _ _ (h .class-length)) in
+          i .1 (
+            ap not (sizes .1 (h .sizes)),
+            (ap not matched, (right-lt .1 (h .right-lt), (desk-lt .1 (h .desk-lt), (class-lt .1 (h .class-lt), tt)))),
+          ),
+    )
+
+-- no entry is the bound or more exactly where all fit below it
+pub someFrom-fit : (bound : ℕ) (entries : List ℕ) → not (every (length entries) (λ i. entryFits (length entries) bound i (getD entries i 0))) ≡ someFrom bound entries
+unfolding someFrom some-below entryFits
+someFrom-fit bound entries = ap not (every-cong (length entries) _ _ (λ i l. rw (lt-ltb i (length entries) l) (flipped bound (getD entries i 0))))
+  where
+    flipped : (a b : ℕ) → ltb b a ≡ not (leb a b)
+    flipped a b = by-test (leb a b) (λ e. le-ltb b a (leb-true a b e) ∙ ap not (sym e)) (λ e. lt-ltb b a (leb-false a b e) ∙ ap not (sym e))

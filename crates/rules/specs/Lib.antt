@@ -1,0 +1,9 @@
+-- What a reader must believe of the rules, in the order of document 01.
+pub mod Sizes
+pub mod Setups
+pub mod Stores
+pub mod Calls
+pub mod Answers
+pub mod Refusals
+pub mod Entries
+pub mod Links

@@ -1,0 +1,105 @@
+// The types of the store and its sizes. The rules over them are in specs/, their laws in proofs/; crates above have the code.
+
+// The most of each thing.
+pub const DESKS: usize = 16;
+
+pub const CLASSES: usize = 16;
+
+pub const PROCESSES: usize = 64;
+
+pub const FILES: usize = 32;
+// Rights lie at desk * CLASSES + class, whatever the counts are.
+pub const RIGHTS: usize = DESKS * CLASSES;
+
+// A right is none, R, W or both.
+pub const R: u8 = 1;
+
+pub const W: u8 = 2;
+
+pub const BOTH: u8 = 3;
+
+#[repr(C)]
+pub struct Setup {
+    pub desks: u32,
+    pub classes: u32,
+    pub processes: u32,
+    pub files: u32,
+    pub rights: [u8; RIGHTS],
+    // The desk of each process, and the class of each file.
+    pub desk: [u8; PROCESSES],
+    pub class: [u8; FILES],
+}
+
+// What a file holds.
+#[repr(C)]
+pub struct Content {
+    pub figure: u32,
+}
+
+// What a store knows of one file.
+#[repr(C)]
+pub struct Sheet {
+    // 0 for unlocked, else the process plus one.
+    pub holder: u32,
+    pub content: Content,
+    // 1 where the process has the file open, else 0.
+    pub readers: [u8; PROCESSES],
+}
+
+#[repr(C)]
+pub struct Store {
+    pub files: [Sheet; FILES],
+}
+
+// A call of process p on file f; the third number is WRITE's figure, and the file that COPY writes.
+pub enum Call {
+    Read(u32, u32),
+    Write(u32, u32, u32),
+    Lock(u32, u32),
+    Unlock(u32, u32),
+    Open(u32, u32),
+    Close(u32, u32),
+    Testlock(u32, u32),
+    Copy(u32, u32, u32),
+}
+
+pub enum Answer {
+    Nothing,
+    Figure(u32),
+    Yes,
+    No,
+    Refused(u32),
+}
+
+// Four numbers are a call, or are not, with the refusal's number.
+pub enum Decoded {
+    Is(Call),
+    Not(u32),
+}
+
+// The refusal's number is 0 where a setup is given; where it is not, the blank setup stands beside it.
+#[repr(C)]
+pub struct GivenSetup {
+    pub refusal: u32,
+    pub setup: Setup,
+}
+
+// The refusal's number is 0 where a store is given; where it is not, a store that fits no setup stands beside it.
+#[repr(C)]
+pub struct GivenStore {
+    pub refusal: u32,
+    pub store: Store,
+}
+
+// What a call answers, with the one file that it can change and that file's next sheet.
+pub struct Turn {
+    pub answer: Answer,
+    pub file: u32,
+    pub sheet: Sheet,
+}
+
+// What a call answers, and the next store.
+pub struct Called {
+    pub answer: Answer,
+    pub store: Store,
+}

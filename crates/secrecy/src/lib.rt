@@ -1,0 +1,1 @@
+// The theory of secrecy for any machine: definitions in specs/, laws in proofs/, no function.
