@@ -1,33 +1,15 @@
-// One call: the rule of each code, the step that matches the call, and the entry.
-use crate::decoding::decode;
-use judging::fitting::judge;
-use judging::fitting::may_read;
-use judging::fitting::may_write;
+// The rule of each code, and the step that matches the call.
 use rules::Answer;
 use rules::Call;
-use rules::Called;
 use rules::Content;
-use rules::Decoded;
-use rules::Setup;
+use rules::Looks;
 use rules::Sheet;
-use rules::Store;
 use rules::Turn;
 ghost use mathlib.Core.Path.{_≡_};
-ghost use mathlib.Core.Bool.{true, false};
 ghost use Prim.Native.Nat.{_<_};
-ghost use lib.ListN.{set};
-ghost use Rattle.rules.specs.Sizes.{mostProcesses, mostFiles};
-ghost use Rattle.rules.specs.Stores.{unlocked, lockedBy, hasOpen, sheetOf, withSheet};
-ghost use Rattle.rules.specs.Calls.{numbers, readOf, writtenTo, copiedTo, yesOrNo, quiet, freeFor, withHolder, withContent, withMark, turn, InRange};
-ghost use Rattle.rules.specs.Entries.{called};
-
-fn sheet_of(store: Store, f: u32) -> Sheet
-    requires { ⌜ f < mostFiles ⌝ }
-    ensures { λ r. ⌜ r ≡ sheetOf store f ⌝ }
-{
-    let i = f as usize;
-    store.files[i]
-}
+ghost use Rattle.rules.specs.Sizes.{mostProcesses};
+ghost use Rattle.rules.specs.Stores.{unlocked, lockedBy, hasOpen};
+ghost use Rattle.rules.specs.Calls.{processOf, readOf, writtenTo, copiedTo, yesOrNo, freeFor, withHolder, withContent, withMark, turnOf, quiet};
 
 // What is asked of a sheet.
 
@@ -116,7 +98,7 @@ fn yes_or_no(held: bool) -> Answer
 }
 
 // A turn that answers nothing.
-fn silent(file: u32, sheet: Sheet) -> Turn
+fn quiet(file: u32, sheet: Sheet) -> Turn
     ensures { λ r. ⌜ r ≡ quiet file sheet ⌝ }
 {
     Turn {
@@ -126,174 +108,135 @@ fn silent(file: u32, sheet: Sheet) -> Turn
     }
 }
 
-// The rule of each code.
+// The rule of each code, on what the call looks at. The tests are joined by `&`: one branch for one row of the table.
 
-fn read(setup: Setup, store: Store, p: u32, f: u32) -> Turn
-    requires { ⌜ InRange (Call.Read p f) ⌝ }
-    ensures { λ r. ⌜ r ≡ turn setup store (Call.Read p f) ⌝ }
+fn read(look: Looks, p: u32, f: u32) -> Turn
+    requires { ⌜ p < mostProcesses ⌝ }
+    ensures { λ r. ⌜ r ≡ turnOf (Call.Read p f) look ⌝ }
 {
-    let sheet = sheet_of(store, f);
-    if may_read(setup, p as usize, f as usize) & has_open(sheet, p) & free_for(sheet, p) {
-        let answer = read_of(sheet.content);
+    let source = look.source;
+    let target = look.target;
+    if look.r & has_open(source, p) & free_for(source, p) {
+        let answer = read_of(source.content);
         Turn {
             answer,
             file: f,
-            sheet,
+            sheet: target,
         }
     } else {
-        silent(f, sheet)
+        quiet(f, target)
     }
 }
 
-fn write(setup: Setup, store: Store, p: u32, f: u32, x: u32) -> Turn
-    requires { ⌜ InRange (Call.Write p f x) ⌝ }
-    ensures { λ r. ⌜ r ≡ turn setup store (Call.Write p f x) ⌝ }
+fn write(look: Looks, p: u32, f: u32, x: u32) -> Turn
+    requires { ⌜ p < mostProcesses ⌝ }
+    ensures { λ r. ⌜ r ≡ turnOf (Call.Write p f x) look ⌝ }
 {
-    let sheet = sheet_of(store, f);
-    if may_write(setup, p as usize, f as usize) & locked_by(sheet, p) {
-        silent(f, with_content(sheet, written_to(sheet.content, x)))
+    let target = look.target;
+    if look.w & locked_by(target, p) {
+        quiet(f, with_content(target, written_to(target.content, x)))
     } else {
-        silent(f, sheet)
+        quiet(f, target)
     }
 }
 
-fn lock(setup: Setup, store: Store, p: u32, f: u32) -> Turn
-    requires { ⌜ InRange (Call.Lock p f) ⌝ }
-    ensures { λ r. ⌜ r ≡ turn setup store (Call.Lock p f) ⌝ }
+fn lock(look: Looks, p: u32, f: u32) -> Turn
+    requires { ⌜ p < mostProcesses ⌝ }
+    ensures { λ r. ⌜ r ≡ turnOf (Call.Lock p f) look ⌝ }
 {
-    let sheet = sheet_of(store, f);
-    if may_write(setup, p as usize, f as usize) & unlocked(sheet) {
-        silent(f, with_holder(sheet, p + 1))
+    let target = look.target;
+    if look.w & unlocked(target) {
+        quiet(f, with_holder(target, p + 1))
     } else {
-        silent(f, sheet)
+        quiet(f, target)
     }
 }
 
-fn unlock(setup: Setup, store: Store, p: u32, f: u32) -> Turn
-    requires { ⌜ InRange (Call.Unlock p f) ⌝ }
-    ensures { λ r. ⌜ r ≡ turn setup store (Call.Unlock p f) ⌝ }
+fn unlock(look: Looks, p: u32, f: u32) -> Turn
+    requires { ⌜ p < mostProcesses ⌝ }
+    ensures { λ r. ⌜ r ≡ turnOf (Call.Unlock p f) look ⌝ }
 {
-    let sheet = sheet_of(store, f);
-    if may_write(setup, p as usize, f as usize) & locked_by(sheet, p) {
-        silent(f, with_holder(sheet, 0))
+    let target = look.target;
+    if look.w & locked_by(target, p) {
+        quiet(f, with_holder(target, 0))
     } else {
-        silent(f, sheet)
+        quiet(f, target)
     }
 }
 
-fn open(setup: Setup, store: Store, p: u32, f: u32) -> Turn
-    requires { ⌜ InRange (Call.Open p f) ⌝ }
-    ensures { λ r. ⌜ r ≡ turn setup store (Call.Open p f) ⌝ }
+fn open(look: Looks, p: u32, f: u32) -> Turn
+    requires { ⌜ p < mostProcesses ⌝ }
+    ensures { λ r. ⌜ r ≡ turnOf (Call.Open p f) look ⌝ }
 {
-    let sheet = sheet_of(store, f);
-    if may_read(setup, p as usize, f as usize) & unlocked(sheet) {
-        silent(f, with_mark(sheet, p, 1))
+    let source = look.source;
+    let target = look.target;
+    if look.r & unlocked(source) {
+        quiet(f, with_mark(target, p, 1))
     } else {
-        silent(f, sheet)
+        quiet(f, target)
     }
 }
 
-fn close(setup: Setup, store: Store, p: u32, f: u32) -> Turn
-    requires { ⌜ InRange (Call.Close p f) ⌝ }
-    ensures { λ r. ⌜ r ≡ turn setup store (Call.Close p f) ⌝ }
+fn close(look: Looks, p: u32, f: u32) -> Turn
+    requires { ⌜ p < mostProcesses ⌝ }
+    ensures { λ r. ⌜ r ≡ turnOf (Call.Close p f) look ⌝ }
 {
-    let sheet = sheet_of(store, f);
-    if may_read(setup, p as usize, f as usize) & has_open(sheet, p) {
-        silent(f, with_mark(sheet, p, 0))
+    let source = look.source;
+    let target = look.target;
+    if look.r & has_open(source, p) {
+        quiet(f, with_mark(target, p, 0))
     } else {
-        silent(f, sheet)
+        quiet(f, target)
     }
 }
 
-fn testlock(setup: Setup, store: Store, p: u32, f: u32) -> Turn
-    requires { ⌜ InRange (Call.Testlock p f) ⌝ }
-    ensures { λ r. ⌜ r ≡ turn setup store (Call.Testlock p f) ⌝ }
+fn testlock(look: Looks, p: u32, f: u32) -> Turn
+    requires { ⌜ p < mostProcesses ⌝ }
+    ensures { λ r. ⌜ r ≡ turnOf (Call.Testlock p f) look ⌝ }
 {
-    let sheet = sheet_of(store, f);
-    if may_read(setup, p as usize, f as usize) & may_write(setup, p as usize, f as usize) {
-        let answer = yes_or_no(locked_by(sheet, p));
+    let source = look.source;
+    let target = look.target;
+    if look.r & look.w {
+        let answer = yes_or_no(locked_by(source, p));
         Turn {
             answer,
             file: f,
-            sheet,
+            sheet: target,
         }
     } else {
-        silent(f, sheet)
+        quiet(f, target)
     }
 }
 
-fn copy(setup: Setup, store: Store, p: u32, f: u32, x: u32) -> Turn
-    requires { ⌜ InRange (Call.Copy p f x) ⌝ }
-    ensures { λ r. ⌜ r ≡ turn setup store (Call.Copy p f x) ⌝ }
+fn copy(look: Looks, p: u32, f: u32, x: u32) -> Turn
+    requires { ⌜ p < mostProcesses ⌝ }
+    ensures { λ r. ⌜ r ≡ turnOf (Call.Copy p f x) look ⌝ }
 {
-    let source = sheet_of(store, f);
-    let target = sheet_of(store, x);
-    if may_read(setup, p as usize, f as usize)
-        & may_write(setup, p as usize, x as usize)
-        & has_open(source, p)
-        & free_for(source, p)
-        & locked_by(target, p)
-    {
-        silent(
+    let source = look.source;
+    let target = look.target;
+    if look.r & look.w & has_open(source, p) & free_for(source, p) & locked_by(target, p) {
+        quiet(
             x,
             with_content(target, copied_to(target.content, source.content)),
         )
     } else {
-        silent(x, target)
+        quiet(x, target)
     }
 }
 
-// One call on a setup and a store that were judged: its answer, and the next sheet of the file that it can change.
-pub fn step(setup: Setup, store: Store, call: Call) -> Turn
-    requires { ⌜ InRange call ⌝ }
-    ensures { λ r. ⌜ r ≡ turn setup store call ⌝ }
+// One call on what it looks at: its answer, and the next sheet of the file that it can change.
+pub fn step(call: Call, look: Looks) -> Turn
+    requires { ⌜ processOf call < mostProcesses ⌝ }
+    ensures { λ r. ⌜ r ≡ turnOf call look ⌝ }
 {
     match call {
-        Call::Read(p, f) => read(setup, store, p, f),
-        Call::Write(p, f, x) => write(setup, store, p, f, x),
-        Call::Lock(p, f) => lock(setup, store, p, f),
-        Call::Unlock(p, f) => unlock(setup, store, p, f),
-        Call::Open(p, f) => open(setup, store, p, f),
-        Call::Close(p, f) => close(setup, store, p, f),
-        Call::Testlock(p, f) => testlock(setup, store, p, f),
-        Call::Copy(p, f, x) => copy(setup, store, p, f, x),
-    }
-}
-
-fn with_sheet(store: Store, f: u32, sheet: Sheet) -> Store
-    requires { ⌜ f < mostFiles ⌝ }
-    ensures { λ r. ⌜ r ≡ withSheet store f sheet ⌝ }
-{
-    let i = f as usize;
-    let mut next = store;
-    next.files[i] = sheet;
-    next
-}
-
-// Entry: one call. The setup and the store are judged first; a refused call hands the store back as it was.
-pub fn call(setup: Setup, store: Store, op: u32, p: u32, f: u32, x: u32) -> Called
-    ensures { λ r. ⌜ r ≡ called setup store (numbers op p f x) ⌝ }
-{
-    let refusal = judge(setup, store);
-    if refusal != 0 {
-        let answer = Answer::Refused(refusal);
-        return Called { answer, store };
-    }
-    let decoded = decode(setup, op, p, f, x);
-    match decoded {
-        Decoded::Not(number) => {
-            let answer = Answer::Refused(number);
-            Called { answer, store }
-        }
-        Decoded::Is(call) => {
-            let turn = step(setup, store, call);
-            let answer = turn.answer;
-            let sheet = turn.sheet;
-            let next = with_sheet(store, turn.file, sheet);
-            Called {
-                answer,
-                store: next,
-            }
-        }
+        Call::Read(p, f) => read(look, p, f),
+        Call::Write(p, f, x) => write(look, p, f, x),
+        Call::Lock(p, f) => lock(look, p, f),
+        Call::Unlock(p, f) => unlock(look, p, f),
+        Call::Open(p, f) => open(look, p, f),
+        Call::Close(p, f) => close(look, p, f),
+        Call::Testlock(p, f) => testlock(look, p, f),
+        Call::Copy(p, f, x) => copy(look, p, f, x),
     }
 }

@@ -1,6 +1,7 @@
 // Accepting a setup that is handed in as four counts and three slices.
 use crate::fitting::entries_fit;
 use crate::fitting::within_sizes;
+use crate::rights::entry_at;
 use rules::BOTH;
 use rules::CLASSES;
 use rules::FILES;
@@ -11,16 +12,10 @@ use rules::Setup;
 ghost use mathlib.Core.Path.{_≡_};
 ghost use Prim.Native.Nat.{_<_, _≤_};
 ghost use lib.ListN.{length, getD};
-ghost use Rattle.rules.specs.Sizes.{mostDesks, mostClasses, mostRights, table};
+ghost use Rattle.rules.specs.Sizes.{mostDesks, mostClasses, table};
 ghost use Rattle.rules.specs.Setups.{setupBytes, givenRight, givenRights, setupFrom, blankSetup};
 ghost use Rattle.rules.specs.Refusals.{slicesMatch, someFrom, setupRefusal};
 ghost use Rattle.rules.specs.Entries.{acceptance};
-
-fn entry_at(entries: &[u8], at: usize) -> u8
-    ensures { λ r. ⌜ r ≡ getD (now (entries .entry)) at 0 ⌝ }
-{
-    if at < entries.len() { entries[at] } else { 0 }
-}
 
 // The right that rights given row by desk have for a desk and a class; past the counts there is none.
 fn given_right(rights: &[u8], classes: usize, d: usize, t: usize) -> u8

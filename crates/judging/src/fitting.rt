@@ -1,73 +1,32 @@
 // Whether a setup could have been accepted, the fresh store, and whether a store fits its setup.
+use crate::rights::has_r;
+use crate::rights::may_write;
+use crate::rights::right_of;
 use rules::BOTH;
 use rules::CLASSES;
 use rules::Content;
 use rules::DESKS;
 use rules::FILES;
 use rules::GivenStore;
+use rules::LEAST;
 use rules::PROCESSES;
-use rules::R;
-use rules::RIGHTS;
 use rules::Setup;
 use rules::Sheet;
 use rules::Store;
-use rules::W;
 ghost use mathlib.Core.Path.{_≡_};
-ghost use mathlib.Core.Bool.{true};
-ghost use Prim.Native.Nat.{_<_, _≤_};
-ghost use lib.Dec.{leb};
+ghost use Prim.Native.Nat.{_<_};
 ghost use lib.ListN.{length, getD};
-ghost use Rattle.rules.specs.Sizes.{mostDesks, mostProcesses, mostFiles, within, every};
-ghost use Rattle.rules.specs.Setups.{deskOf, classOf, rightOf, mayRead, mayWrite, withinSizes, entryFits, classesAt, rowFits, rightsFit, desksFit, classesFit, accepted};
+ghost use Rattle.rules.specs.Sizes.{mostDesks, within, every};
+ghost use Rattle.rules.specs.Setups.{withinSizes, entryFits, classesAt, rowFits, rightsFit, desksFit, classesFit, accepted};
 ghost use Rattle.rules.specs.Stores.{isBlank, blankSheet, freshStore, misfit, holderFits, markFits, marksFit, sheetIsBlank, sheetFits, fits};
+ghost use Rattle.judging.specs.Tables.{tables};
 ghost use Rattle.rules.specs.Refusals.{judgeRefusal};
 ghost use Rattle.rules.specs.Entries.{freshness};
-
-// The right at a place of the table; past its end there is none.
-fn right_at(setup: Setup, desk: u8, class: u8) -> u8
-    ensures { λ r. ⌜ r ≡ rightOf setup desk class ⌝ }
-{
-    let i = desk as usize * CLASSES + class as usize;
-    if i < RIGHTS { setup.rights[i] } else { 0 }
-}
-
-fn desk_of(setup: Setup, p: usize) -> u8
-    ensures { λ r. ⌜ r ≡ deskOf setup p ⌝ }
-{
-    if p < PROCESSES { setup.desk[p] } else { 0 }
-}
-
-fn class_of(setup: Setup, f: usize) -> u8
-    ensures { λ r. ⌜ r ≡ classOf setup f ⌝ }
-{
-    if f < FILES { setup.class[f] } else { 0 }
-}
-
-// The right of a process's desk on a file's class.
-fn right_of(setup: Setup, p: usize, f: usize) -> u8
-    ensures { λ r. ⌜ r ≡ rightOf setup (deskOf setup p) (classOf setup f) ⌝ }
-{
-    right_at(setup, desk_of(setup, p), class_of(setup, f))
-}
-
-pub fn may_read(setup: Setup, p: usize, f: usize) -> bool
-    ensures { λ r. ⌜ r ≡ mayRead setup p f ⌝ }
-{
-    let right = right_of(setup, p, f);
-    right == R || right == BOTH
-}
-
-pub fn may_write(setup: Setup, p: usize, f: usize) -> bool
-    ensures { λ r. ⌜ r ≡ mayWrite setup p f ⌝ }
-{
-    let right = right_of(setup, p, f);
-    right == W || right == BOTH
-}
 
 fn within(count: u32, most: usize) -> bool
     ensures { λ r. ⌜ r ≡ within count most ⌝ }
 {
-    1 <= count && count as usize <= most
+    LEAST <= count && count as usize <= most
 }
 
 pub fn within_sizes(desks: u32, classes: u32, processes: u32, files: u32) -> bool
@@ -161,7 +120,7 @@ fn classes_fit(setup: Setup) -> bool
     entries_fit(&class, setup.files as usize, setup.classes as usize)
 }
 
-pub fn accepted(setup: Setup) -> bool
+fn accepted(setup: Setup) -> bool
     ensures { λ r. ⌜ r ≡ accepted setup ⌝ }
 {
     if !within_sizes(setup.desks, setup.classes, setup.processes, setup.files) {
@@ -176,7 +135,7 @@ pub fn accepted(setup: Setup) -> bool
     classes_fit(setup)
 }
 
-pub fn blank_sheet() -> Sheet
+fn blank_sheet() -> Sheet
     ensures { λ r. ⌜ r ≡ blankSheet ⌝ }
 {
     Sheet {
@@ -207,8 +166,16 @@ fn holder_fits(setup: Setup, f: usize, sheet: Sheet) -> bool
     }
 }
 
-fn mark_fits(setup: Setup, f: usize, p: usize, mark: u8) -> bool
-    ensures { λ r. ⌜ r ≡ markFits setup f p mark ⌝ }
+fn mark_fits(
+    processes: usize,
+    rights: &[u8],
+    desk: &[u8],
+    class: &[u8],
+    f: usize,
+    p: usize,
+    mark: u8,
+) -> bool
+    ensures { λ r. ⌜ r ≡ markFits (tables processes (now (rights .entry)) (now (desk .entry)) (now (class .entry))) f p mark ⌝ }
 {
     if mark == 0 {
         return true;
@@ -216,8 +183,8 @@ fn mark_fits(setup: Setup, f: usize, p: usize, mark: u8) -> bool
     if mark != 1 {
         return false;
     }
-    if p < setup.processes as usize {
-        may_read(setup, p, f)
+    if p < processes {
+        has_r(right_of(rights, desk, class, p, f))
     } else {
         false
     }
@@ -226,9 +193,13 @@ fn mark_fits(setup: Setup, f: usize, p: usize, mark: u8) -> bool
 fn marks_fit(setup: Setup, f: usize, sheet: Sheet) -> bool
     ensures { λ r. ⌜ r ≡ marksFit setup f sheet ⌝ }
 {
+    let rights = setup.rights;
+    let desk = setup.desk;
+    let class = setup.class;
+    let processes = setup.processes as usize;
     let mut p = 0;
     while p < PROCESSES {
-        if !mark_fits(setup, f, p, sheet.readers[p]) {
+        if !mark_fits(processes, &rights, &desk, &class, f, p, sheet.readers[p]) {
             return false;
         }
         p += 1;
@@ -244,6 +215,7 @@ fn sheet_is_blank(sheet: Sheet) -> bool
         return false;
     }
     let readers = sheet.readers;
+    // Past a count of 0 every entry is 0.
     if !entries_fit(&readers, 0, 0) {
         return false;
     }
@@ -262,7 +234,7 @@ fn sheet_fits(setup: Setup, f: usize, sheet: Sheet) -> bool
     marks_fit(setup, f, sheet)
 }
 
-pub fn store_fits(setup: Setup, store: Store) -> bool
+fn store_fits(setup: Setup, store: Store) -> bool
     ensures { λ r. ⌜ r ≡ fits setup store ⌝ }
 {
     let mut f = 0;

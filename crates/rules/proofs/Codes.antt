@@ -5,7 +5,8 @@ use mathlib.Core.Path.{_≡_, sym, _∙_, subst}
 use mathlib.Core.List.{map}
 use native.Mathlib.Omega.{arith}
 use lib.ListN.{getD, replicate, List·getD-map}
-use Rattle.rules.specs.Calls.{Numbers, calls, codes, codeOfCopy, callOf, processOf, fileOf, changeable}
+use Rattle.rules.specs.Sizes.{mostProcesses, mostFiles}
+use Rattle.rules.specs.Calls.{Numbers, calls, firstCode, lastCode, codeOfCopy, callOf, processOf, fileOf, changeable}
 use Rattle.rules.specs.declared.Setup.{Setup}
 use Rattle.rules.specs.declared.Call.{Call}
 use Rattle.rules.specs.declared.Call.the-variants.{Read}
@@ -17,21 +18,27 @@ pub record Exists (s : Setup) (c : Call) : Type 0 where
   pub file : fileOf c < s .files
   pub changed : changeable c < s .files
 
+-- every number that a call names lies inside the most of its kind
+pub record InRange (c : Call) : Type 0 where
+  pub process : processOf c < mostProcesses
+  pub file : fileOf c < mostFiles
+  pub changed : changeable c < mostFiles
+
 -- a part of the call that numbers are is that part of the call of their code
-callOf-part : (part : Call → ℕ) (n : Numbers) → getD (map part (calls (n .process) (n .file) (n .extra))) (n .operation - 1) (part (Read (n .process) (n .file))) ≡ part (callOf n)
+callOf-part : (part : Call → ℕ) (n : Numbers) → getD (map part (calls (n .process) (n .file) (n .extra))) (n .operation - firstCode) (part (Read (n .process) (n .file))) ≡ part (callOf n)
 unfolding callOf
-callOf-part part n = List·getD-map part (calls (n .process) (n .file) (n .extra)) (n .operation - 1) (Read (n .process) (n .file))
+callOf-part part n = List·getD-map part (calls (n .process) (n .file) (n .extra)) (n .operation - firstCode) (Read (n .process) (n .file))
 
 -- the second number is the call's process, and the third its file f
 pub processOf-callOf : (n : Numbers) → processOf (callOf n) ≡ n .process
-processOf-callOf n = sym (callOf-part processOf n) ∙ getD-alike codes (n .operation - 1) (n .process)
+processOf-callOf n = sym (callOf-part processOf n) ∙ getD-alike lastCode (n .operation - firstCode) (n .process)
 
 pub fileOf-callOf : (n : Numbers) → fileOf (callOf n) ≡ n .file
-fileOf-callOf n = sym (callOf-part fileOf n) ∙ getD-alike codes (n .operation - 1) (n .file)
+fileOf-callOf n = sym (callOf-part fileOf n) ∙ getD-alike lastCode (n .operation - firstCode) (n .file)
 
 -- what holds of the third number, and of the fourth for COPY, holds of the file that the call can change
 pub changeable-holds {ℓ} : (P : ℕ → Type ℓ) (n : Numbers) → P (n .file) → (n .operation ≡ codeOfCopy → P (n .extra)) → P (changeable (callOf n))
 changeable-holds P n h k =
     subst P (callOf-part changeable n)
-    (set-holds P (replicate codes (n .file)) (codeOfCopy - 1) (n .operation - 1) (n .extra) (n .file)
-    (subst P (sym (getD-alike codes (n .operation - 1) (n .file))) h) (λ e. k (omega arith)))
+    (set-holds P (replicate lastCode (n .file)) (codeOfCopy - firstCode) (n .operation - firstCode) (n .extra) (n .file)
+    (subst P (sym (getD-alike lastCode (n .operation - firstCode) (n .file))) h) (λ e. k (omega arith)))

@@ -7,7 +7,7 @@ use mathlib.Core.Logic.{_≢_}
 use native.Mathlib.Nat.{lt-of-lt-of-le}
 use native.Mathlib.Omega.{arith}
 use Rattle.rules.specs.Setups.{accepted}
-use Rattle.rules.specs.Calls.{Numbers, callOf, answerTo, nextStore, InRange}
+use Rattle.rules.specs.Calls.{Numbers, callOf, answerTo, nextStore}
 use Rattle.rules.specs.Refusals.{callRefusal, judgeRefusal, numbersRefusal}
 use Rattle.rules.specs.Entries.{unless, decoded, outcome, called, ran}
 use Rattle.rules.specs.declared.Setup.{Setup}
@@ -16,6 +16,7 @@ use Rattle.rules.specs.declared.Call.{Call}
 use Rattle.rules.specs.declared.Called.{Called}
 use Rattle.rules.specs.declared.Answer.the-variants.{Refused}
 use Rattle.rules.specs.declared.Decoded.the-variants.{Is, Not}
+use Rattle.rules.proofs.Codes.{InRange}
 use Rattle.rules.proofs.Told.{unless-refused}
 use Rattle.rules.proofs.Setups.{accepted-sizes}
 use Rattle.rules.proofs.Refusals.{callRefusal-after, numbers-exist}
@@ -43,11 +44,12 @@ decoded-in-range s n c a e =
     let d = decoded-is s n c e in
     let x = numbers-exist s n (d .0) in
     let w = accepted-sizes s a in
-    subst InRange (d .1) (
-      lt-of-lt-of-le (x .process) (w .of-processes .high),
-      lt-of-lt-of-le (x .file) (w .of-files .high),
-      lt-of-lt-of-le (x .changed) (w .of-files .high),
-    )
+    subst InRange (d .1)
+    (record {
+      process = lt-of-lt-of-le (x .process) (w .of-processes .high);
+      file = lt-of-lt-of-le (x .file) (w .of-files .high);
+      changed = lt-of-lt-of-le (x .changed) (w .of-files .high);
+    })
 
 -- a decoded call is run, and numbers that are no call are answered with their refusal
 pub ran-is : (s : Setup) (m : Store) (n : Numbers) (c : Call) → decoded s n ≡ Is c → ran s m n ≡ record { answer = answerTo s m c; store = nextStore s m c }

@@ -9,11 +9,11 @@ use native.Mathlib.Omega.{arith}
 use borrow.Author.Tests.{ltb-false, leb-true, leb-false, eqb-true, eqb-false, not-true, not-false, lt-ltb, le-ltb, lt-leb, eq-eqb, ne-eqb}
 use lib.Dec.{ltb, leb, eqb}
 use lib.ListN.{length, getD}
-use Rattle.rules.specs.Sizes.{least, every, some-below}
+use Rattle.rules.specs.Sizes.{every, someBelow}
 use Rattle.rules.specs.Setups.{SetupBytes, rightBoth, entryFits, accepted}
 use Rattle.rules.specs.Stores.{fits}
-use Rattle.rules.specs.Calls.{Numbers, codes, codeOfWrite, codeOfCopy, callOf}
-use Rattle.rules.specs.Refusals.{Order, _gives_then_, firstOf, countOutside, slicesMatch, someFrom, setupOrder, setupRefusal, setupFirst, storeNext, numbersLast, callRefusal, freshRefusal, judgeRefusal, numbersRefusal}
+use Rattle.rules.specs.Calls.{Numbers, firstCode, lastCode, codeOfWrite, codeOfCopy, callOf}
+use Rattle.rules.specs.Refusals.{Refusal, _gives_, firstOf, slicesMatch, someFrom, refusal15, refusal16, setupOrder, setupRefusal, callOrder, numbersOrder, callRefusal, freshRefusal, judgeRefusal, numbersRefusal}
 use Rattle.rules.specs.Entries.{unless}
 use Rattle.rules.specs.declared.Setup.{Setup}
 use Rattle.rules.specs.declared.Store.{Store}
@@ -23,17 +23,17 @@ use Rattle.rules.proofs.Setups.{WithinSizes, withinSizes-iff}
 use Rattle.rules.proofs.Codes.{Exists, processOf-callOf, fileOf-callOf, changeable-holds}
 
 -- each number of an order is a refusal's, and not the 0 of none
-abbrev pub Numbered : Order → Type 0
+abbrev pub Numbered : List Refusal → Type 0
 Numbered [] = Unit {0}
 Numbered (r ∷ rs) = (0 < r .1) × Numbered rs
 
 -- no condition of an order holds
-abbrev pub Unmet : Order → Type 0
+abbrev pub Unmet : List Refusal → Type 0
 Unmet [] = Unit {0}
 Unmet (r ∷ rs) = (r .0 ≡ false) × Unmet rs
 
 -- an order gives 0 exactly where none of its conditions holds
-pub unmet-iff : (order : Order) → Numbered order → (firstOf order ≡ 0) ↔ Unmet order
+pub unmet-iff : (order : List Refusal) → Numbered order → (firstOf order ≡ 0) ↔ Unmet order
 unmet-iff [] h = (λ e. tt, λ u. refl)
 unmet-iff (r ∷ rs) h = first (r .0) (r .1) (h .0) (unmet-iff rs (h .1))
   where
@@ -42,7 +42,7 @@ unmet-iff (r ∷ rs) h = first (r .0) (r .1) (h .0) (unmet-iff rs (h .1))
     first false n l i = (λ e. (refl, i .0 e), λ u. i .1 (u .1))
 
 -- one order after another: the second is looked at only where the first gives none
-pub firstOf-append : (order next : Order) → Numbered order → firstOf (order ++ next) ≡ unless (firstOf order) (firstOf next) (firstOf order)
+pub firstOf-append : (order next : List Refusal) → Numbered order → firstOf (order ++ next) ≡ unless (firstOf order) (firstOf next) (firstOf order)
 firstOf-append [] next h = refl
 firstOf-append (r ∷ rs) next h = first (r .0) (r .1) (h .0) (firstOf-append rs next (h .1))
   where
@@ -55,13 +55,13 @@ firstOf-append (r ∷ rs) next h = first (r .0) (r .1) (h .0) (firstOf-append rs
 -- a call is judged after its setup and its store
 pub callRefusal-after : (s : Setup) (m : Store) (n : Numbers) → callRefusal s m n ≡ unless (judgeRefusal s m) (numbersRefusal s n) (judgeRefusal s m)
 unfolding callRefusal judgeRefusal numbersRefusal
-callRefusal-after s m n = firstOf-append (setupFirst s (storeNext s m [])) (numbersLast s n) (omega arith)
+callRefusal-after s m n = firstOf-append (refusal15 s ∷ refusal16 s m ∷ []) (numbersOrder s n) (omega arith)
 
 -- nothing is held against a setup and a store exactly where the one is accepted and the other fits it
 pub judgeRefusal-iff : (s : Setup) (m : Store) → (judgeRefusal s m ≡ 0) ↔ ((accepted s ≡ true) × (fits s m ≡ true))
 unfolding judgeRefusal
 judgeRefusal-iff s m =
-    let i = unmet-iff (setupFirst s (storeNext s m [])) (omega arith) in (
+    let i = unmet-iff (refusal15 s ∷ refusal16 s m ∷ []) (omega arith) in (
       λ e. (not-false (accepted s) (i .0 e .0), not-false (fits s m) (i .0 e .1 .0)),
       λ h. i .1 (ap not (h .0), (ap not (h .1), tt)),
     )
@@ -70,7 +70,7 @@ judgeRefusal-iff s m =
 pub freshRefusal-iff : (s : Setup) → (freshRefusal s ≡ 0) ↔ (accepted s ≡ true)
 unfolding freshRefusal
 freshRefusal-iff s =
-    let i = unmet-iff (setupFirst s []) (omega arith) in
+    let i = unmet-iff (refusal15 s ∷ []) (omega arith) in
     (λ e. not-false (accepted s) (i .0 e .0), λ h. i .1 (ap not h, tt))
 
 -- no refusal is given for a call exactly where none is given for its setup and store, and none for its numbers
@@ -90,8 +90,8 @@ callRefusal-alike s m m′ n a f f′ = callRefusal-judged s m n (judgeRefusal-i
 
 -- numbers that are a call whose process and files exist, with no extra where it has none and no COPY onto itself
 pub record Sound (s : Setup) (n : Numbers) : Type 0 where
-  pub first-code : least ≤ n .operation
-  pub last-code : n .operation ≤ codes
+  pub first-code : firstCode ≤ n .operation
+  pub last-code : n .operation ≤ lastCode
   pub process : n .process < s .processes
   pub file : n .file < s .files
   pub target : n .operation ≡ codeOfCopy → n .extra < s .files
@@ -102,10 +102,10 @@ pub record Sound (s : Setup) (n : Numbers) : Type 0 where
 pub numbersRefusal-iff : (s : Setup) (n : Numbers) → (numbersRefusal s n ≡ 0) ↔ Sound s n
 unfolding numbersRefusal
 numbersRefusal-iff s n =
-    let i = unmet-iff (numbersLast s n) (omega arith) in
+    let i = unmet-iff (numbersOrder s n) (omega arith) in
     let write = eqb (n .operation) codeOfWrite in
     let copy = eqb (n .operation) codeOfCopy in
-    let code = neither (ltb (n .operation) least) (ltb codes (n .operation)) in
+    let code = neither (ltb (n .operation) firstCode) (ltb lastCode (n .operation)) in
     let file = neither (leb (s .files) (n .file)) (copy && leb (s .files) (n .extra)) in
     let target = not-both copy (leb (s .files) (n .extra)) in
     let with-extra = neither write copy in
@@ -114,8 +114,8 @@ numbersRefusal-iff s n =
       λ e.
           let u = i .0 e in
           record {
-            first-code = ltb-false (n .operation) least (code .0 (u .0) .0);
-            last-code = ltb-false codes (n .operation) (code .0 (u .0) .1);
+            first-code = ltb-false (n .operation) firstCode (code .0 (u .0) .0);
+            last-code = ltb-false lastCode (n .operation) (code .0 (u .0) .1);
             process = leb-false (s .processes) (n .process) (u .1 .0);
             file = leb-false (s .files) (n .file) (file .0 (u .1 .1 .0) .0);
             target = λ q. leb-false (s .files) (n .extra) (target .0 (file .0 (u .1 .1 .0) .1) (eq-eqb (n .operation) codeOfCopy q));
@@ -128,7 +128,7 @@ numbersRefusal-iff s n =
           },
       λ h.
           i .1 (
-            code .1 (le-ltb (n .operation) least (h .first-code), le-ltb codes (n .operation) (h .last-code)),
+            code .1 (le-ltb (n .operation) firstCode (h .first-code), le-ltb lastCode (n .operation) (h .last-code)),
             (
               lt-leb (s .processes) (n .process) (h .process),
               (
@@ -162,7 +162,7 @@ numbers-exist s n e =
 
 -- no entry of a slice is its bound or more exactly where each is below it
 pub someFrom-iff : (bound : ℕ) (entries : List ℕ) → (someFrom bound entries ≡ false) ↔ ((i : ℕ) → i < length entries → getD entries i 0 < bound)
-unfolding someFrom some-below
+unfolding someFrom someBelow
 someFrom-iff bound entries = (
   λ e i l. leb-false bound (getD entries i 0) (not-true (leb bound (getD entries i 0)) (every-at (length entries) _ (not-false _ e) i l)),
   λ h. ap not (every-true (length entries) (λ i. not (leb bound (getD entries i 0))) (λ i l. ap not (lt-leb bound (getD entries i 0) (h i l)))),
@@ -214,7 +214,7 @@ setupRefusal-iff b =
 
 -- no entry is the bound or more exactly where all fit below it
 pub someFrom-fit : (bound : ℕ) (entries : List ℕ) → not (every (length entries) (λ i. entryFits (length entries) bound i (getD entries i 0))) ≡ someFrom bound entries
-unfolding someFrom some-below entryFits
+unfolding someFrom someBelow entryFits
 someFrom-fit bound entries = ap not (every-cong (length entries) _ _ (λ i l. rw (lt-ltb i (length entries) l) (flipped bound (getD entries i 0))))
   where
     flipped : (a b : ℕ) → ltb b a ≡ not (leb a b)

@@ -1,4 +1,4 @@
--- Laws of `every`, `some-below` and `table`.
+-- Laws of `every`, `someBelow` and `table`.
 -- Assumes nothing.
 use Prim.Native.Nat.{ℕ, zero, suc, _+_, _<_, _≤_}
 use mathlib.Core.Path.{_≡_, refl, ap, sym, _∙_, subst}
@@ -9,7 +9,7 @@ use native.Mathlib.Nat.{not-suc-le-zero, le-of-suc-le-suc, eq-or-lt-of-le, lt-tr
 use native.Mathlib.Omega.{arith}
 use lib.ListN.{length, getD, take, drop, length-take, length-drop, List·getD-eq-default}
 use lib.Seq.{ext-getD, getD-take, getD-drop}
-use Rattle.rules.specs.Sizes.{every, some-below, table}
+use Rattle.rules.specs.Sizes.{every, someBelow, table}
 
 -- what holds of every number below n holds of each, and the other way
 pub every-at : (n : ℕ) (p : ℕ → Bool) → every n p ≡ true → (k : ℕ) → k < n → p k ≡ true
@@ -68,6 +68,6 @@ every-part xs start n p h =
     ∙ every-cong n _ _ (λ i l. ap (p i) (getD-take n (drop start xs) i 0 l ∙ getD-drop start xs i 0))
 
 -- one number below n of which it holds is enough
-pub some-below-true : (n : ℕ) (p : ℕ → Bool) (k : ℕ) → k < n → p k ≡ true → some-below n p ≡ true
-unfolding some-below
-some-below-true n p k h e = ap not (every-false n (λ i. not (p i)) k h (ap not e))
+pub someBelow-true : (n : ℕ) (p : ℕ → Bool) (k : ℕ) → k < n → p k ≡ true → someBelow n p ≡ true
+unfolding someBelow
+someBelow-true n p k h e = ap not (every-false n (λ i. not (p i)) k h (ap not e))

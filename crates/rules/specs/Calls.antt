@@ -1,9 +1,8 @@
 -- 01, "The eight calls": when each goes through, its effect, and its answer.
-use Prim.Native.Nat.{ℕ, _+_, _-_, _<_}
+use Prim.Native.Nat.{ℕ, _+_, _-_}
 use mathlib.Core.Bool.{Bool, _&&_, _||_, cond}
 use mathlib.Core.List.{List, [], _∷_}
 use lib.ListN.{getD, set}
-use Rattle.rules.specs.Sizes.{mostProcesses, mostFiles}
 use Rattle.rules.specs.Setups.{mayRead, mayWrite}
 use Rattle.rules.specs.Stores.{unlocked, lockedBy, hasOpen, sheetOf, withSheet}
 use Rattle.rules.specs.declared.Setup.{Setup}
@@ -12,6 +11,7 @@ use Rattle.rules.specs.declared.Sheet.{Sheet}
 use Rattle.rules.specs.declared.Store.{Store}
 use Rattle.rules.specs.declared.Call.{Call}
 use Rattle.rules.specs.declared.Call.the-variants.{Read, Write, Lock, Unlock, Open, Close, Testlock, Copy}
+use Rattle.rules.specs.declared.Looks.{Looks}
 use Rattle.rules.specs.declared.Turn.{Turn}
 use Rattle.rules.specs.declared.Answer.{Answer}
 use Rattle.rules.specs.declared.Answer.the-variants.{Nothing, Figure, Yes, No}
@@ -31,8 +31,11 @@ abbrev pub calls : ℕ → ℕ → ℕ → List Call
 calls p f x =
     Read p f ∷ Write p f x ∷ Lock p f ∷ Unlock p f ∷ Open p f ∷ Close p f ∷ Testlock p f ∷ Copy p f x ∷ []
 
-abbrev pub codes : ℕ
-codes = 8
+abbrev pub firstCode : ℕ
+firstCode = 1
+
+abbrev pub lastCode : ℕ
+lastCode = 8
 
 abbrev pub codeOfWrite : ℕ
 codeOfWrite = 2
@@ -42,7 +45,7 @@ codeOfCopy = 8
 
 -- the call of a code; numbers that are no call are refused before this is asked
 unfoldable pub callOf : Numbers → Call
-callOf n = getD (calls (n .process) (n .file) (n .extra)) (n .operation - 1) (Read (n .process) (n .file))
+callOf n = getD (calls (n .process) (n .file) (n .extra)) (n .operation - firstCode) (Read (n .process) (n .file))
 
 -- what READ, WRITE and COPY do with a file's content
 abbrev pub readOf : Content → Answer
@@ -89,17 +92,26 @@ changeable (Copy p f x) = x
 abbrev pub freeFor : Sheet → ℕ → Bool
 freeFor sheet p = unlocked sheet || lockedBy sheet p
 
+-- what a call looks at: R on f's class, W on the class of the file that it can change, and the sheets of the two
+abbrev pub looksAt : Setup → Store → Call → Looks
+looksAt s m call =
+    record {
+      r = mayRead s (processOf call) (fileOf call);
+      w = mayWrite s (processOf call) (changeable call);
+      source = sheetOf m (fileOf call);
+      target = sheetOf m (changeable call);
+    }
+
 -- the column "Goes through when"
-unfoldable pub goesThrough : Setup → Store → Call → Bool
-goesThrough s m (Read p f) = mayRead s p f && hasOpen (sheetOf m f) p && freeFor (sheetOf m f) p
-goesThrough s m (Write p f x) = mayWrite s p f && lockedBy (sheetOf m f) p
-goesThrough s m (Lock p f) = mayWrite s p f && unlocked (sheetOf m f)
-goesThrough s m (Unlock p f) = mayWrite s p f && lockedBy (sheetOf m f) p
-goesThrough s m (Open p f) = mayRead s p f && unlocked (sheetOf m f)
-goesThrough s m (Close p f) = mayRead s p f && hasOpen (sheetOf m f) p
-goesThrough s m (Testlock p f) = mayRead s p f && mayWrite s p f
-goesThrough s m (Copy p f x) =
-    mayRead s p f && mayWrite s p x && hasOpen (sheetOf m f) p && freeFor (sheetOf m f) p && lockedBy (sheetOf m x) p
+abbrev pub goes : Call → Looks → Bool
+goes (Read p f) k = k .r && hasOpen (k .source) p && freeFor (k .source) p
+goes (Write p f x) k = k .w && lockedBy (k .target) p
+goes (Lock p f) k = k .w && unlocked (k .target)
+goes (Unlock p f) k = k .w && lockedBy (k .target) p
+goes (Open p f) k = k .r && unlocked (k .source)
+goes (Close p f) k = k .r && hasOpen (k .source) p
+goes (Testlock p f) k = k .r && k .w
+goes (Copy p f x) k = k .r && k .w && hasOpen (k .source) p && freeFor (k .source) p && lockedBy (k .target) p
 
 abbrev pub withHolder : Sheet → ℕ → Sheet
 withHolder sheet h = record { holder = h; content = sheet .content; readers = sheet .readers }
@@ -110,30 +122,40 @@ withContent sheet content = record { holder = sheet .holder; content = content; 
 abbrev pub withMark : Sheet → ℕ → ℕ → Sheet
 withMark sheet p mark = record { holder = sheet .holder; content = sheet .content; readers = set (sheet .readers) p mark }
 
--- the column "Effect": the next sheet of the one file that the call can change
-unfoldable pub effect : Store → Call → Sheet
-effect m (Read p f) = sheetOf m f
-effect m (Write p f x) = withContent (sheetOf m f) (writtenTo (sheetOf m f .content) x)
-effect m (Lock p f) = withHolder (sheetOf m f) (p + 1)
-effect m (Unlock p f) = withHolder (sheetOf m f) 0
-effect m (Open p f) = withMark (sheetOf m f) p 1
-effect m (Close p f) = withMark (sheetOf m f) p 0
-effect m (Testlock p f) = sheetOf m f
-effect m (Copy p f x) = withContent (sheetOf m x) (copiedTo (sheetOf m x .content) (sheetOf m f .content))
+-- the column "Effect": the next sheet of the file that the call can change
+abbrev pub changes : Call → Sheet → Sheet → Sheet
+changes (Read p f) source target = target
+changes (Write p f x) source target = withContent target (writtenTo (target .content) x)
+changes (Lock p f) source target = withHolder target (p + 1)
+changes (Unlock p f) source target = withHolder target 0
+changes (Open p f) source target = withMark target p 1
+changes (Close p f) source target = withMark target p 0
+changes (Testlock p f) source target = target
+changes (Copy p f x) source target = withContent target (copiedTo (target .content) (source .content))
 
 abbrev pub yesOrNo : Bool → Answer
 yesOrNo held = cond held Yes No
 
 -- the column "Effect": what a call that goes through answers
+abbrev pub tells : Call → Sheet → Answer
+tells (Read p f) source = readOf (source .content)
+tells (Write p f x) source = Nothing
+tells (Lock p f) source = Nothing
+tells (Unlock p f) source = Nothing
+tells (Open p f) source = Nothing
+tells (Close p f) source = Nothing
+tells (Testlock p f) source = yesOrNo (lockedBy source p)
+tells (Copy p f x) source = Nothing
+
+-- the two columns on a setup and a store
+unfoldable pub goesThrough : Setup → Store → Call → Bool
+goesThrough s m call = goes call (looksAt s m call)
+
+unfoldable pub effect : Store → Call → Sheet
+effect m call = changes call (sheetOf m (fileOf call)) (sheetOf m (changeable call))
+
 unfoldable pub says : Store → Call → Answer
-says m (Read p f) = readOf (sheetOf m f .content)
-says m (Write p f x) = Nothing
-says m (Lock p f) = Nothing
-says m (Unlock p f) = Nothing
-says m (Open p f) = Nothing
-says m (Close p f) = Nothing
-says m (Testlock p f) = yesOrNo (lockedBy (sheetOf m f) p)
-says m (Copy p f x) = Nothing
+says m call = tells call (sheetOf m (fileOf call))
 
 -- a call that does not go through answers "nothing" and leaves the store as it is
 unfoldable pub answerTo : Setup → Store → Call → Answer
@@ -142,19 +164,15 @@ answerTo s m call = cond (goesThrough s m call) (says m call) Nothing
 unfoldable pub nextStore : Setup → Store → Call → Store
 nextStore s m call = cond (goesThrough s m call) (withSheet m (changeable call) (effect m call)) m
 
+-- For the step, which is no entry: a call's answer, the file that it can change, and that file's next sheet.
+unfoldable pub turnOf : Call → Looks → Turn
+turnOf call k =
+    record {
+      answer = cond (goes call k) (tells call (k .source)) Nothing;
+      file = changeable call;
+      sheet = cond (goes call k) (changes call (k .source) (k .target)) (k .target);
+    }
+
 -- a turn that answers nothing
 abbrev pub quiet : ℕ → Sheet → Turn
 quiet file sheet = record { answer = Nothing; file = file; sheet = sheet }
-
--- what a call answers, with the one file that it can change and that file's next sheet
-unfoldable pub turn : Setup → Store → Call → Turn
-turn s m call =
-    record {
-      answer = answerTo s m call;
-      file = changeable call;
-      sheet = cond (goesThrough s m call) (effect m call) (sheetOf m (changeable call));
-    }
-
--- every number that a call names lies inside the most of its kind
-abbrev pub InRange : Call → Type 0
-InRange call = (processOf call < mostProcesses) × (fileOf call < mostFiles) × (changeable call < mostFiles)

@@ -3,7 +3,7 @@ use Prim.Native.Nat.{ℕ}
 use mathlib.Core.Bool.{Bool, _&&_, cond}
 use mathlib.Core.Option.{Option, some, none}
 use lib.Dec.{ltb, eqb}
-use Rattle.rules.specs.Sizes.{some-below}
+use Rattle.rules.specs.Sizes.{someBelow}
 use Rattle.rules.specs.Setups.{hasR, hasW, deskOf, classOf, rightOf}
 use Rattle.rules.specs.Calls.{Numbers}
 use Rattle.rules.specs.declared.Setup.{Setup}
@@ -13,7 +13,7 @@ unfoldable pub deskOfCall : Setup → Numbers → Option ℕ
 deskOfCall s n = cond (ltb (n .process) (s .processes)) (some (deskOf s (n .process))) none
 
 unfoldable pub hasProcess : Setup → ℕ → Bool
-hasProcess s d = some-below (s .processes) (λ p. eqb (deskOf s p) d)
+hasProcess s d = someBelow (s .processes) (λ p. eqb (deskOf s p) d)
 
 -- "d has W and e has R on the class of some file"
 abbrev pub serves : Setup → ℕ → ℕ → ℕ → Bool
@@ -21,4 +21,4 @@ serves s d e f = hasW (rightOf s d (classOf s f)) && hasR (rightOf s e (classOf 
 
 -- "A link runs from desk d to desk e when .. and each of the two has a process"
 unfoldable pub linked : Setup → ℕ → ℕ → Bool
-linked s d e = hasProcess s d && hasProcess s e && some-below (s .files) (serves s d e)
+linked s d e = hasProcess s d && hasProcess s e && someBelow (s .files) (serves s d e)

@@ -32,8 +32,8 @@ every zero p = true
 every (suc n) p = every n p && p n
 
 -- the condition holds of some number below n
-unfoldable pub some-below : ℕ → (ℕ → Bool) → Bool
-some-below n p = not (every n (λ k. not (p k)))
+unfoldable pub someBelow : ℕ → (ℕ → Bool) → Bool
+someBelow n p = not (every n (λ k. not (p k)))
 
 -- the list of f at 0, 1, .. below n
 unfoldable pub table {ℓ} : {A : Type ℓ} → ℕ → (ℕ → A) → List A

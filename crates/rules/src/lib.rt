@@ -1,6 +1,8 @@
 // The types of the store and its sizes. The rules over them are in specs/, their laws in proofs/; crates above have the code.
 
-// The most of each thing.
+// The least and the most of each thing.
+pub const LEAST: u32 = 1;
+
 pub const DESKS: usize = 16;
 
 pub const CLASSES: usize = 16;
@@ -89,6 +91,14 @@ pub struct GivenSetup {
 pub struct GivenStore {
     pub refusal: u32,
     pub store: Store,
+}
+
+// What a call looks at: R on the class of its file f, W on the class of the file that it can change, and their sheets.
+pub struct Looks {
+    pub r: bool,
+    pub w: bool,
+    pub source: Sheet,
+    pub target: Sheet,
 }
 
 // What a call answers, with the one file that it can change and that file's next sheet.

@@ -10,7 +10,7 @@ use Rattle.secrecy.specs.Machine.{answersTo}
 use Rattle.secrecy.specs.Strike.{strikeDesk}
 use Rattle.secrecy.specs.Sets.{Desks, OfEither, of-H, of-L, of-nobody, Closed}
 use Rattle.secrecy.proofs.Closed.{desk-unheard}
-use Rattle.rules.specs.Sizes.{every, some-below, table}
+use Rattle.rules.specs.Sizes.{every, someBelow, table}
 use Rattle.rules.specs.Setups.{withinSizes, entryFits, rowFits, rightsFit, desksFit, classesFit, accepted, givenRight, setupFrom}
 use Rattle.rules.specs.Calls.{Numbers}
 use Rattle.rules.specs.Links.{deskOfCall, hasProcess, linked}
@@ -29,7 +29,7 @@ abbrev Only : ℕ → Desks
 Only u d = d ≡ u
 
 closed : Closed (linkedTo case8) (Only 0) (Only 1)
-unfolding case8 setupFrom table givenRight linked hasProcess some-below every
+unfolding case8 setupFrom table givenRight linked hasProcess someBelow every
 closed = record { apart = λ d h l. omega arith; no-link = λ d u h l. rw (h, l) false≢true }
 
 -- process n sits at desk n

@@ -15,7 +15,7 @@ use Rattle.rules.specs.Links.{hasProcess, serves, linked}
 use Rattle.rules.specs.declared.Setup.{Setup}
 use Rattle.rules.specs.declared.Store.{Store}
 use Rattle.rules.proofs.Lists.{by-test}
-use Rattle.rules.proofs.Sizes.{some-below-true}
+use Rattle.rules.proofs.Sizes.{someBelow-true}
 use Rattle.rules.proofs.Refusals.{numbers-exist}
 use Rattle.views.specs.Machine.{machine, linkedTo}
 use Rattle.views.specs.Views.{OfDesk, ReadBy, Alike}
@@ -28,14 +28,14 @@ use Rattle.views.proofs.Steps.{stays, alone}
 module _ (s : Setup) where
   has-process : {d p : ℕ} → OfDesk s d p → hasProcess s d ≡ true
   unfolding hasProcess
-  has-process {d} {p} o = some-below-true _ _ p (o .exists) (eq-eqb _ _ (o .sits))
+  has-process {d} {p} o = someBelow-true _ _ p (o .exists) (eq-eqb _ _ (o .sits))
 
   -- a link runs where a process of one desk may write what another desk, with a process, may read
   link : {d u p q g : ℕ} → OfDesk s d p → OfDesk s u q → ReadBy s u g → mayWrite s p g ≡ true → linkedTo s d u
   unfolding linked mayWrite
   link {d} {u} {g = g} writer reader reads writes =
       rw (has-process writer, has-process reader)
-      (some-below-true (s .files) (serves s d u) g (reads .exists) (rw (← writer .sits, writes) (reads .right)))
+      (someBelow-true (s .files) (serves s d u) g (reads .exists) (rw (← writer .sits, writes) (reads .right)))
 
   -- a process sees the same of stores alike to its desk, where it may read
   own : {d p f : ℕ} {m k : Store} → OfDesk s d p → f < s .files → Alike s d m k → SameIfRead s p f m k

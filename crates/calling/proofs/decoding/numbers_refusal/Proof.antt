@@ -3,12 +3,11 @@
 use Prim.Native.Nat.{ℕ, _<_, _≤_}
 use mathlib.Core.Path.{_≡_}
 use mathlib.Core.Bool.{_&&_}
-use mathlib.Core.List.{[]}
+use mathlib.Core.List.{[], _∷_}
 use lib.Dec.{leb, eqb}
 use borrow.Author.Tests.{lt-ltb, le-ltb, lt-leb, le-leb, eq-eqb, ne-eqb}
-use Rattle.rules.specs.Sizes.{least}
-use Rattle.rules.specs.Calls.{numbers, codes, codeOfCopy}
-use Rattle.rules.specs.Refusals.{_gives_then_, firstOf, idleExtra, copyOntoItself, numbersRefusal}
+use Rattle.rules.specs.Calls.{numbers, firstCode, lastCode, codeOfCopy}
+use Rattle.rules.specs.Refusals.{_gives_, firstOf, refusal8, refusal9, numbersRefusal}
 use Rattle.rules.specs.declared.Setup.{Setup}
 use Rattle.calling.proofs.decoding.numbers_refusal.Statement.{statement}
 use Rattle.calling.proofs.decoding.numbers_refusal.Tie as tie
@@ -38,13 +37,10 @@ returns-4 c =
 -- what is left to judge where the operation, the process and the file are there
 abbrev LeftToJudge : Setup → ℕ → ℕ → ℕ → ℕ → Type 0
 LeftToJudge s op p f x =
-    numbersRefusal s (numbers op p f x)
-    ≡ firstOf
-    (eqb op codeOfCopy && leb (s .files) x gives 7 then
-    idleExtra (numbers op p f x) gives 8 then
-    copyOntoItself (numbers op p f x) gives 9 then [])
+    let n = numbers op p f x in
+    numbersRefusal s n ≡ firstOf ((eqb op codeOfCopy && leb (s .files) x gives 7) ∷ refusal8 n ∷ refusal9 n ∷ [])
 
-left-to-judge : (s : Setup) (op p f x : ℕ) → least ≤ op → op ≤ codes → p < s .processes → f < s .files → LeftToJudge s op p f x
+left-to-judge : (s : Setup) (op p f x : ℕ) → firstCode ≤ op → op ≤ lastCode → p < s .processes → f < s .files → LeftToJudge s op p f x
 unfolding numbersRefusal
 left-to-judge s op p f x h₁ h₂ h₃ h₄ = simp (le-ltb _ _ h₁, le-ltb _ _ h₂, lt-leb _ _ h₃, lt-leb _ _ h₄)
 

@@ -3,17 +3,11 @@
 use borrow.Author.Needs.{needs}
 use mathlib.Core.Path.{_≡_, sym, _∙_}
 use mathlib.Core.Bool.{_&&_}
-use Rattle.rules.specs.Calls.{goesThrough, effect, says}
+use Rattle.rules.specs.Calls.{goes}
 use Rattle.rules.specs.declared.Call.the-variants.{Close}
 use Rattle.rules.proofs.Turns.{turn-goes, turn-stays}
 use Rattle.calling.proofs.stepping.close.Statement.{statement}
 use Rattle.calling.proofs.stepping.close.Tie as tie
-
-sheet-of-requires : tie.Need-sheet-of-requires
-sheet-of-requires c κs = search needs
-
-may-read-requires : tie.Need-may-read-requires
-may-read-requires c κs = search needs
 
 has-open-requires : tie.Need-has-open-requires
 has-open-requires c κs = search needs
@@ -21,37 +15,29 @@ has-open-requires c κs = search needs
 with-mark-requires : tie.Need-with-mark-requires
 with-mark-requires c κs = search needs
 
-silent-requires : tie.Need-silent-requires
-silent-requires c κs = search needs
+quiet-requires : tie.Need-quiet-requires
+quiet-requires c κs = search needs
 
-silent-requires-2 : tie.Need-silent-requires-2
-silent-requires-2 c κs = search needs
+quiet-requires-2 : tie.Need-quiet-requires-2
+quiet-requires-2 c κs = search needs
 
 -- the test is the rule's condition
-asked : (c : tie.After-has-open) → (let a = c .before .before .before .args in c .before .may-read .result && c .has-open .result ≡ goesThrough (a .setup) (a .store) (Close (a .p) (a .f)))
-unfolding goesThrough
-asked c = simp (c .before .may-read .ensures, c .has-open .ensures, c .before .before .sheet-of .ensures)
+asked : (c : tie.After-struct-known) → (let a = c .before .before .before .before .args in (a .look .r && c .before .has-open .result) ≡ goes (Close (a .p) (a .f)) (a .look))
+asked c = simp (c .before .has-open .ensures)
 
 returns : tie.Need-returns
-unfolding says effect
-returns c =
-    rw (turn-goes _ _ _ (sym (asked (c .before .before .before)) ∙ c .before .before .if1 .taken))
-    (simp (c .silent .ensures, c .before .with-mark .ensures, c .before .before .before .before .before .sheet-of .ensures))
+returns c = let a = c .before .before .before .before .before .before .before .args in rw (turn-goes (Close (a .p) (a .f)) (a .look) (sym (asked (c .before .before .before)) ∙ c .before .before .if1 .taken)) (simp (c .quiet .ensures, c .before .with-mark .ensures))
 
 returns-2 : tie.Need-returns-2
-returns-2 c =
-    rw (turn-stays _ _ _ (sym (asked (c .before .before)) ∙ c .before .if1 .left))
-    (simp (c .silent2 .ensures, c .before .before .before .before .sheet-of .ensures))
+returns-2 c = let a = c .before .before .before .before .before .before .args in rw (turn-stays (Close (a .p) (a .f)) (a .look) (sym (asked (c .before .before)) ∙ c .before .if1 .left)) (c .quiet2 .ensures)
 
 pub close-spec : {M : Type 1} → statement M
 close-spec =
     tie.close
     (tie.spec
-    sheet-of-requires
-    may-read-requires
     has-open-requires
     with-mark-requires
-    silent-requires
-    silent-requires-2
+    quiet-requires
+    quiet-requires-2
     returns
     returns-2)

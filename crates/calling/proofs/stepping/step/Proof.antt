@@ -1,58 +1,64 @@
 -- `calling::stepping::step` meets its contract: each arm is the rule of its call.
 -- Assumes nothing.
+use Prim.Native.Nat.{_<_}
 use mathlib.Core.Path.{subst}
 use borrow.Author.Needs.{needs}
-use Rattle.rules.specs.Calls.{InRange}
+use Rattle.rules.specs.Sizes.{mostProcesses}
+use Rattle.rules.specs.Calls.{processOf}
+use Rattle.rules.specs.declared.Call.{Call}
 use Rattle.calling.proofs.stepping.step.Statement.{statement}
 use Rattle.calling.proofs.stepping.step.Tie as tie
+
+abbrev OfProcess : Call → Type 0
+OfProcess call = processOf call < mostProcesses
 
 enum-known-call : tie.Need-enum-known-call
 enum-known-call c = search needs
 
 read-requires : tie.Need-read-requires
-read-requires c κs = subst InRange (c .before .call .given .1) (c .before .before .before .pre)
+read-requires c κs = subst OfProcess (c .before .call .given .1) (c .before .before .before .pre)
 
 enum-known-call-2 : tie.Need-enum-known-call-2
 enum-known-call-2 c = search needs
 
 write-requires : tie.Need-write-requires
-write-requires c κs = subst InRange (c .before .call2 .given .1) (c .before .before .before .pre)
+write-requires c κs = subst OfProcess (c .before .call2 .given .1) (c .before .before .before .pre)
 
 enum-known-call-3 : tie.Need-enum-known-call-3
 enum-known-call-3 c = search needs
 
 lock-requires : tie.Need-lock-requires
-lock-requires c κs = subst InRange (c .before .call3 .given .1) (c .before .before .before .pre)
+lock-requires c κs = subst OfProcess (c .before .call3 .given .1) (c .before .before .before .pre)
 
 enum-known-call-4 : tie.Need-enum-known-call-4
 enum-known-call-4 c = search needs
 
 unlock-requires : tie.Need-unlock-requires
-unlock-requires c κs = subst InRange (c .before .call4 .given .1) (c .before .before .before .pre)
+unlock-requires c κs = subst OfProcess (c .before .call4 .given .1) (c .before .before .before .pre)
 
 enum-known-call-5 : tie.Need-enum-known-call-5
 enum-known-call-5 c = search needs
 
 open-requires : tie.Need-open-requires
-open-requires c κs = subst InRange (c .before .call5 .given .1) (c .before .before .before .pre)
+open-requires c κs = subst OfProcess (c .before .call5 .given .1) (c .before .before .before .pre)
 
 enum-known-call-6 : tie.Need-enum-known-call-6
 enum-known-call-6 c = search needs
 
 close-requires : tie.Need-close-requires
-close-requires c κs = subst InRange (c .before .call6 .given .1) (c .before .before .before .pre)
+close-requires c κs = subst OfProcess (c .before .call6 .given .1) (c .before .before .before .pre)
 
 enum-known-call-7 : tie.Need-enum-known-call-7
 enum-known-call-7 c = search needs
 
 testlock-requires : tie.Need-testlock-requires
-testlock-requires c κs = subst InRange (c .before .call7 .given .1) (c .before .before .before .pre)
+testlock-requires c κs = subst OfProcess (c .before .call7 .given .1) (c .before .before .before .pre)
 
 enum-known-call-8 : tie.Need-enum-known-call-8
 enum-known-call-8 c = search needs
 
 copy-requires : tie.Need-copy-requires
-copy-requires c κs = subst InRange (c .before .call8 .given .1) (c .before .before .before .pre)
+copy-requires c κs = subst OfProcess (c .before .call8 .given .1) (c .before .before .before .pre)
 
 returns : tie.Need-returns
 returns c = rw (c .before .before .call .given .1) (c .read .ensures)

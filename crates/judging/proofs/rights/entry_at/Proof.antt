@@ -1,10 +1,10 @@
--- `judging::accepting::entry_at` meets its contract: past the end stands 0.
+-- `judging::rights::entry_at` meets its contract: past the end stands 0.
 -- Assumes nothing.
 use mathlib.Core.Path.{sym}
 use borrow.Author.Needs.{needs}
 use lib.ListN.{List·getD-eq-default}
-use Rattle.judging.proofs.accepting.entry_at.Statement.{statement}
-use Rattle.judging.proofs.accepting.entry_at.Tie as tie
+use Rattle.judging.proofs.rights.entry_at.Statement.{statement}
+use Rattle.judging.proofs.rights.entry_at.Tie as tie
 
 shared-slice-read-result : tie.Need-shared-slice-read-result
 shared-slice-read-result c = search needs

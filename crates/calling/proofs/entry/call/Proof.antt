@@ -1,26 +1,33 @@
--- `calling::stepping::call` meets its contract: judged, then decoded, then stepped.
+-- `calling::entry::call` meets its contract: judged, then decoded, then stepped.
 -- Assumes nothing.
 use borrow.Author.Needs.{needs}
-use mathlib.Core.Path.{_≡_, sym, _∙_}
-use Rattle.rules.specs.Calls.{numbers, InRange}
+use mathlib.Core.Path.{_≡_, sym, _∙_, ap}
+use Rattle.rules.specs.Calls.{numbers}
+use Rattle.rules.specs.Answers.{numbersOf}
 use Rattle.rules.specs.Refusals.{judgeRefusal}
 use Rattle.rules.specs.Entries.{decoded}
+use Rattle.rules.specs.declared.Called.{Called}
 use Rattle.rules.specs.declared.Decoded.{Decoded}
 use Rattle.rules.specs.declared.Decoded.the-variants.{Is, Not}
+use Rattle.rules.proofs.Codes.{InRange}
 use Rattle.rules.proofs.Refusals.{judgeRefusal-iff}
 use Rattle.rules.proofs.Numbers.{decoded-in-range, ran-is, ran-not, called-unjudged}
 use Rattle.rules.proofs.Entries.{called-judged}
 use Rattle.rules.proofs.Turns.{turn-answer, turn-file, turn-put}
-use Rattle.calling.proofs.stepping.call.Statement.{statement}
-use Rattle.calling.proofs.stepping.call.Tie as tie
+use Rattle.calling.proofs.entry.call.Statement.{statement}
+use Rattle.calling.proofs.entry.call.Tie as tie
 
 judge-requires : tie.Need-judge-requires
 judge-requires c κs = search needs
 
+-- an answer that is the call's has the call's two numbers
+promised : {x y : Called} → x ≡ y → (x ≡ y) × (numbersOf (x .answer) ≡ numbersOf (y .answer))
+promised e = (e, ap (λ (z : Called). numbersOf (z .answer)) e)
+
 returns : tie.Need-returns
 returns c =
     let e = c .before .judge .ensures in
-    rw (called-unjudged _ _ _ (λ z. c .if1 .taken (e ∙ z))) (simp e)
+    promised (rw (called-unjudged _ _ _ (λ z. c .if1 .taken (e ∙ z))) (simp e))
 
 decode-requires : tie.Need-decode-requires
 decode-requires c κs = search needs
@@ -44,21 +51,25 @@ found c = sym (c .before .before .decode .ensures) ∙ c .decoded2 .given .1
 in-range : (c : tie.After-decoded2) → InRange (c .decoded2 .given .0 .0)
 in-range c = decoded-in-range _ _ _ (judgeRefusal-iff _ _ .0 (judged (c .before .before .before)) .0) (found c)
 
+look-at-requires : tie.Need-look-at-requires
+look-at-requires c κs = let r = in-range (c .before) in (r .file, r .changed)
+
 step-requires : tie.Need-step-requires
-step-requires c κs = in-range (c .before)
+step-requires c κs = in-range (c .before .before) .process
 
 with-sheet-requires : tie.Need-with-sheet-requires
-with-sheet-requires c κs = rw (c .before .step .ensures, turn-file) (in-range (c .before .before .before) .2)
+with-sheet-requires c κs = rw (c .before .step .ensures, turn-file) (in-range (c .before .before .before .before) .changed)
 
 returns-2 : tie.Need-returns-2
 returns-2 c =
     let d : Numbered (c .before .before .before) (Not (c .before .decoded .given .0 .0)) = sym (c .before .before .before .decode .ensures) ∙ c .before .decoded .given .1 in
-    rw (called-judged _ _ _ (judged (c .before .before .before .before)), ran-not _ _ _ _ d)
+    promised (rw (called-judged _ _ _ (judged (c .before .before .before .before)), ran-not _ _ _ _ d))
 
 returns-3 : tie.Need-returns-3
 returns-3 c =
-    rw (called-judged _ _ _ (judged (c .before .before .before .before .before .before .before)), ran-is _ _ _ _ (found (c .before .before .before .before)))
-    (simp (c .with-sheet .ensures, c .before .before .step .ensures, turn-answer, turn-put))
+    promised
+    (rw (called-judged _ _ _ (judged (c .before .before .before .before .before .before .before .before)), ran-is _ _ _ _ (found (c .before .before .before .before .before)))
+    (simp (c .with-sheet .ensures, c .before .before .step .ensures, c .before .before .before .look-at .ensures, turn-answer, turn-file, turn-put)))
 
 pub call-spec : {M : Type 1} → statement M
 call-spec =
@@ -69,6 +80,7 @@ call-spec =
     decode-requires
     enum-known-decoded
     enum-known-decoded-2
+    look-at-requires
     step-requires
     with-sheet-requires
     returns-2
