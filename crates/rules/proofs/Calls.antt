@@ -1,16 +1,16 @@
--- Laws of the eight calls: what each leaves alone, and that a call on what exists keeps a store fitting.
+-- Laws of the eight calls: what each leaves alone, what OPEN and TESTLOCK need, and that a call on what exists keeps a store fitting.
 -- Assumes nothing.
 use Prim.Native.Nat.{ℕ, _+_, _-_, _<_, _≤_}
-use mathlib.Core.Path.{_≡_, refl, sym, _∙_, subst}
-use mathlib.Core.Bool.{Bool, true, false, cond, and-eq-true-iff, or-true, false≢true}
+use mathlib.Core.Path.{_≡_, refl}
+use mathlib.Core.Bool.{Bool, true, false, and-eq-true-iff, and-false, or-true, false≢true}
 use mathlib.Core.Logic.{_≢_}
 use native.Mathlib.Omega.{arith}
-use borrow.Author.Tests.{ltb-true, ltb-false, lt-ltb}
+use borrow.Author.Tests.{ltb-true, ltb-false, eqb-true, lt-ltb, ne-eqb}
 use lib.Dec.{ltb}
 use lib.ListN.{length, length-set}
 use lib.Seq.{set-set}
 use Rattle.rules.specs.Setups.{mayRead, mayWrite}
-use Rattle.rules.specs.Stores.{unlocked, sheetOf, withSheet, holderFits, markFits, sheetFits, fits}
+use Rattle.rules.specs.Stores.{unlocked, lockedBy, sheetOf, withSheet, holderFits, markFits, sheetFits, fits}
 use Rattle.rules.specs.Calls.{changeable, goesThrough, withHolder, withContent, withMark, effect, says, answerTo, nextStore}
 use Rattle.rules.specs.declared.Setup.{Setup}
 use Rattle.rules.specs.declared.Sheet.{Sheet}
@@ -25,7 +25,8 @@ use Rattle.rules.proofs.Lists.{by-test, cond-holds, set-holds}
 use Rattle.rules.proofs.Stores.{sheetFits-iff, fits-at, sheetOf-holds, fits-withSheet, sheetOf-same, sheetOf-other, withSheet-out, withSheet-own}
 
 -- what holds of the store as it is where the call does not go through, and of it with the effect where it does, holds of the next store
-pub nextStore-holds {ℓ} : (P : Store → Type ℓ) (s : Setup) (m : Store) (c : Call) → (goesThrough s m c ≡ false → P m) → (goesThrough s m c ≡ true → P (withSheet m (changeable c) (effect m c))) → P (nextStore s m c)
+pub nextStore-holds {ℓ} : (P : Store → Type ℓ) (s : Setup) (m : Store) (c : Call) → (goesThrough s m c ≡ false → P m)
+    → (goesThrough s m c ≡ true → P (withSheet m (changeable c) (effect m c))) → P (nextStore s m c)
 unfolding nextStore
 nextStore-holds P s m c f t = cond-holds P (goesThrough s m c) t f
 
@@ -185,3 +186,15 @@ open-twice s m p f =
     outside l =
         rw (withSheet-out m f (effect m (Open p f)) l)
         (nextStore-holds (λ (n : Store). n ≡ m) s m (Open p f) (λ g. refl) (λ g. withSheet-out m f (effect m (Open p f)) l))
+
+-- "OPEN of a file that p itself has locked does not go through"
+pub open-own-locked : (s : Setup) (m : Store) (p f : ℕ) → lockedBy (sheetOf m f) p ≡ true → goesThrough s m (Open p f) ≡ false
+unfolding goesThrough
+open-own-locked s m p f e =
+    let held = eqb-true (sheetOf m f .holder) (p + 1) e in
+    rw (ne-eqb (sheetOf m f .holder) 0 (omega arith)) (and-false (mayRead s p f))
+
+-- TESTLOCK goes through only for a process whose desk has R and W
+pub testlock-rights : (s : Setup) (m : Store) (p f : ℕ) → goesThrough s m (Testlock p f) ≡ true → (mayRead s p f ≡ true) × (mayWrite s p f ≡ true)
+unfolding goesThrough
+testlock-rights s m p f g = and-eq-true-iff (mayRead s p f) (mayWrite s p f) .0 g

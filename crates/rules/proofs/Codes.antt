@@ -1,16 +1,17 @@
--- Laws of the call that four numbers are: its process, its files, and what it is to exist.
+-- Laws of the call that four numbers are: its process, its files, its place in the table, and what it is to exist.
 -- Assumes nothing.
-use Prim.Native.Nat.{ℕ, _-_, _<_}
-use mathlib.Core.Path.{_≡_, sym, _∙_, subst}
+use Prim.Native.Nat.{ℕ, _+_, _-_, _<_}
+use mathlib.Core.Path.{_≡_, refl, sym, _∙_, subst}
 use mathlib.Core.List.{map}
+use mathlib.Core.Option.{some}
 use native.Mathlib.Omega.{arith}
-use lib.ListN.{getD, replicate, List·getD-map}
+use lib.ListN.{length, getD, getElem?, replicate, List·getD-map}
 use Rattle.rules.specs.Sizes.{mostProcesses, mostFiles}
-use Rattle.rules.specs.Calls.{Numbers, calls, firstCode, lastCode, codeOfCopy, callOf, processOf, fileOf, changeable}
+use Rattle.rules.specs.Calls.{Numbers, calls, firstCode, lastCode, codeOfWrite, codeOfCopy, callOf, processOf, fileOf, changeable}
 use Rattle.rules.specs.declared.Setup.{Setup}
 use Rattle.rules.specs.declared.Call.{Call}
-use Rattle.rules.specs.declared.Call.the-variants.{Read}
-use Rattle.rules.proofs.Lists.{set-holds, getD-alike}
+use Rattle.rules.specs.declared.Call.the-variants.{Read, Write, Copy}
+use Rattle.rules.proofs.Lists.{set-holds, getD-alike, getElem?-getD}
 
 -- a call's process exists, and so does each file that it names
 pub record Exists (s : Setup) (c : Call) : Type 0 where
@@ -42,3 +43,23 @@ changeable-holds P n h k =
     subst P (callOf-part changeable n)
     (set-holds P (replicate lastCode (n .file)) (codeOfCopy - firstCode) (n .operation - firstCode) (n .extra) (n .file)
     (subst P (sym (getD-alike lastCode (n .operation - firstCode) (n .file))) h) (λ e. k (omega arith)))
+
+-- the codes are as many as the calls
+pub calls-length : (p f x : ℕ) → length (calls p f x) ≡ lastCode
+calls-length p f x = refl
+
+-- the call of a code is the one that stands in the list at the code's place
+pub callOf-at : (n : Numbers) (k : ℕ) → k < lastCode → n .operation ≡ firstCode + k → getElem? (calls (n .process) (n .file) (n .extra)) k ≡ some (callOf n)
+unfolding callOf
+callOf-at n k l e =
+    let place : n .operation - firstCode ≡ k = omega arith in
+    rw place (getElem?-getD (calls (n .process) (n .file) (n .extra)) k (Read (n .process) (n .file)) l)
+
+-- so the codes that are said by name are those of WRITE and of COPY
+pub callOf-write : (n : Numbers) → n .operation ≡ codeOfWrite → callOf n ≡ Write (n .process) (n .file) (n .extra)
+unfolding callOf
+callOf-write n e = rw e
+
+pub callOf-copy : (n : Numbers) → n .operation ≡ codeOfCopy → callOf n ≡ Copy (n .process) (n .file) (n .extra)
+unfolding callOf
+callOf-copy n e = rw e

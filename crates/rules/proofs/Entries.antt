@@ -1,8 +1,9 @@
--- Laws of what the entries answer: a call keeps a store fitting, and a setup is accepted exactly when its own bytes give it.
+-- Laws of what the entries answer: a refused call changes nothing, one that is run changes at most one file and keeps a store fitting,
+-- a fresh store is given for an accepted setup, and a setup is accepted exactly when its own bytes give it.
 -- Assumes nothing.
 use Prim.Native.Nat.{ℕ, zero, suc, _+_, _*_, _/_, _%_, _<_, _≤_}
 use mathlib.Core.Path.{_≡_, refl, ap, sym, _∙_, subst}
-use mathlib.Core.Bool.{true}
+use mathlib.Core.Bool.{true, false}
 use mathlib.Core.Logic.{_↔_, _≢_}
 use mathlib.Core.List.{List}
 use native.Mathlib.Nat.{mod-lt, mul-le-mul-right, div-add-mod', div-lt-iff-lt-mul}
@@ -13,18 +14,20 @@ use lib.Dec.{ltb}
 use lib.ListN.{length, getD, List·getD-eq-default}
 use Rattle.rules.specs.Sizes.{mostDesks, mostClasses, mostProcesses, mostFiles, mostRights, table}
 use Rattle.rules.specs.Setups.{rightBoth, deskOf, classOf, rightOf, classesAt, accepted, SetupBytes, givenRight, setupFrom, blankSetup}
-use Rattle.rules.specs.Stores.{sheetOf, fits}
-use Rattle.rules.specs.Calls.{Numbers, callOf, nextStore}
-use Rattle.rules.specs.Refusals.{setupRefusal, callRefusal, judgeRefusal, numbersRefusal}
-use Rattle.rules.specs.Entries.{unless, acceptance, outcome, called, ran}
+use Rattle.rules.specs.Stores.{sheetOf, freshStore, fits, misfit}
+use Rattle.rules.specs.Calls.{Numbers, changeable, callOf, answerTo, nextStore}
+use Rattle.rules.specs.Refusals.{setupRefusal, callRefusal, freshRefusal, judgeRefusal, numbersRefusal}
+use Rattle.rules.specs.Entries.{unless, acceptance, freshness, outcome, called, ran}
 use Rattle.rules.specs.declared.Setup.{Setup}
 use Rattle.rules.specs.declared.Store.{Store}
+use Rattle.rules.specs.declared.Answer.the-variants.{Refused}
 use Rattle.rules.specs.declared.GivenSetup.{GivenSetup}
 use Rattle.rules.proofs.Told.{unless-refused}
 use Rattle.rules.proofs.Lists.{by-test, cond-holds}
 use Rattle.rules.proofs.Sizes.{length-table, getD-table, table-is}
 use Rattle.rules.proofs.Setups.{Entries, classesAt-before, classesAt-past, accepted-iff, accepted-sizes, deskOf-lt, classOf-lt, rightOf-lt, rightOf-past, deskOf-past, classOf-past}
-use Rattle.rules.proofs.Calls.{nextStore-fits, nextStore-length, nextStore-readers}
+use Rattle.rules.proofs.Stores.{freshStore-fits}
+use Rattle.rules.proofs.Calls.{nextStore-fits, nextStore-other, nextStore-length, nextStore-readers}
 use Rattle.rules.proofs.Refusals.{callRefusal-iff, callRefusal-judged, numbers-exist, setupRefusal-iff}
 
 -- on a setup and a store that nothing is held against, a call does what it does on those that were judged before
@@ -38,6 +41,29 @@ outcome-holds P s m n zero p h = h refl
 outcome-holds P s m n (suc refusal) p h = p
 
 module _ (s : Setup) (m : Store) (n : Numbers) where
+  -- a call that no refusal is given for is run
+  pub called-runs : callRefusal s m n ≡ 0 → called s m n ≡ record { answer = answerTo s m (callOf n); store = nextStore s m (callOf n) }
+  unfolding called
+  called-runs e = ap (outcome s m n) e
+
+  -- "A refused call leaves the store unchanged, gets its answer"
+  pub called-refused : callRefusal s m n ≢ 0 → called s m n ≡ record { answer = Refused (callRefusal s m n); store = m }
+  unfolding called
+  called-refused h = unless-refused (callRefusal s m n) _ _ h
+
+  -- every call changes at most one file, refused or not
+  outcome-other : (refusal g : ℕ) → g ≢ changeable (callOf n) → sheetOf (outcome s m n refusal .store) g ≡ sheetOf m g
+  outcome-other refusal g h =
+      outcome-holds (λ (x : Store). sheetOf x g ≡ sheetOf m g) s m n refusal refl (λ q. nextStore-other s m (callOf n) g h)
+
+  pub ran-other : (g : ℕ) → g ≢ changeable (callOf n) → sheetOf (ran s m n .store) g ≡ sheetOf m g
+  unfolding ran
+  ran-other = outcome-other (numbersRefusal s n)
+
+  pub called-other : (g : ℕ) → g ≢ changeable (callOf n) → sheetOf (called s m n .store) g ≡ sheetOf m g
+  unfolding called
+  called-other = outcome-other (callRefusal s m n)
+
   -- numbers that no refusal is given for keep a store fitting
   pub numbers-fit : fits s m ≡ true → numbersRefusal s n ≡ 0 → fits s (nextStore s m (callOf n)) ≡ true
   numbers-fit e q = nextStore-fits s m (callOf n) (numbers-exist s n q) e
@@ -223,6 +249,20 @@ acceptance-gives b e = ap {B = GivenSetup} (λ n. record { refusal = n; setup = 
 pub acceptance-refuses : (b : SetupBytes) → setupRefusal b ≢ 0 → acceptance b ≡ record { refusal = setupRefusal b; setup = blankSetup }
 unfolding acceptance
 acceptance-refuses b h = ap {B = GivenSetup} (λ x. record { refusal = setupRefusal b; setup = x }) (unless-refused (setupRefusal b) _ _ h)
+
+-- an accepted setup is given the fresh store
+pub freshness-gives : (s : Setup) → accepted s ≡ true → freshness s ≡ record { refusal = 0; store = freshStore }
+unfolding freshness freshRefusal
+freshness-gives s e = rw e
+
+-- and that store fits it
+pub freshness-fits : (s : Setup) → accepted s ≡ true → fits s (freshness s .store) ≡ true
+freshness-fits s e = rw (freshness-gives s e) (freshStore-fits s)
+
+-- "Fresh store: 15": any other setup is refused, and beside the number stands a store that fits no setup
+pub freshness-refuses : (s : Setup) → accepted s ≡ false → freshness s ≡ record { refusal = 15; store = misfit }
+unfolding freshness freshRefusal
+freshness-refuses s e = rw e
 
 -- a setup is accepted exactly when its own counts and entries give it
 pub accepted-exactly : (s : Setup) → Shaped s → (accepted s ≡ true) ↔ (acceptance (bytesOf s) ≡ record { refusal = 0; setup = s })

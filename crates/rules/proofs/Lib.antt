@@ -1,11 +1,13 @@
--- The laws of the definitions in specs/, a file for each of theirs, and of tests, lists and loops.
+-- The laws of the definitions in specs/: a file for each of theirs, Codes, Turns and Numbers on parts of the calls and entries,
+-- and Lists, Told, Passed and Filled on lists, tests and loops.
 pub mod Answers
 pub mod Calls
-pub mod Numbers
 pub mod Codes
 pub mod Entries
 pub mod Filled
+pub mod Links
 pub mod Lists
+pub mod Numbers
 pub mod Passed
 pub mod Refusals
 pub mod Setups

@@ -1,11 +1,13 @@
 -- Laws of tests, choices and lists that the laws of the rules share.
 -- Assumes nothing.
-use Prim.Native.Nat.{ℕ, zero, suc}
+use Prim.Native.Nat.{ℕ, zero, suc, _<_}
 use mathlib.Core.Path.{_≡_, refl, ap}
 use mathlib.Core.Bool.{Bool, true, false, _&&_, _||_, cond, true≢false, false≢true}
 use mathlib.Core.Logic.{_↔_}
 use mathlib.Core.List.{List, [], _∷_}
-use lib.ListN.{getD, set, replicate}
+use mathlib.Core.Option.{some}
+use native.Mathlib.Nat.{not-suc-le-zero, le-of-suc-le-suc}
+use lib.ListN.{length, getD, getElem?, set, replicate}
 
 -- what follows from a test's passing and from its failing follows
 pub by-test {ℓ} : {C : Type ℓ} (b : Bool) → (b ≡ true → C) → (b ≡ false → C) → C
@@ -47,3 +49,9 @@ pub getD-alike {ℓ} : {A : Type ℓ} (n i : ℕ) (a : A) → getD (replicate n 
 getD-alike zero i a = refl
 getD-alike (suc n) zero a = refl
 getD-alike (suc n) (suc i) a = getD-alike n i a
+
+-- before a list's end what stands there stands there, whatever would stand in for what is missing
+pub getElem?-getD {ℓ} : {A : Type ℓ} (l : List A) (i : ℕ) (d : A) → i < length l → getElem? l i ≡ some (getD l i d)
+getElem?-getD [] i d h = absurd (not-suc-le-zero h)
+getElem?-getD (x ∷ l) zero d h = refl
+getElem?-getD (x ∷ l) (suc i) d h = getElem?-getD l i d (le-of-suc-le-suc h)

@@ -1,7 +1,7 @@
 -- Laws of decoded numbers: what a decoded call is, and what running it answers.
 -- Assumes nothing.
 use Prim.Native.Nat.{ℕ, zero, suc}
-use mathlib.Core.Path.{_≡_, refl, sym, _∙_, subst}
+use mathlib.Core.Path.{_≡_, refl, _∙_, subst}
 use mathlib.Core.Bool.{true}
 use mathlib.Core.Logic.{_≢_}
 use native.Mathlib.Nat.{lt-of-lt-of-le}
@@ -9,17 +9,17 @@ use native.Mathlib.Omega.{arith}
 use Rattle.rules.specs.Setups.{accepted}
 use Rattle.rules.specs.Calls.{Numbers, callOf, answerTo, nextStore}
 use Rattle.rules.specs.Refusals.{callRefusal, judgeRefusal, numbersRefusal}
-use Rattle.rules.specs.Entries.{unless, decoded, outcome, called, ran}
+use Rattle.rules.specs.Entries.{unless, decoded, called, ran}
 use Rattle.rules.specs.declared.Setup.{Setup}
 use Rattle.rules.specs.declared.Store.{Store}
 use Rattle.rules.specs.declared.Call.{Call}
-use Rattle.rules.specs.declared.Called.{Called}
 use Rattle.rules.specs.declared.Answer.the-variants.{Refused}
 use Rattle.rules.specs.declared.Decoded.the-variants.{Is, Not}
 use Rattle.rules.proofs.Codes.{InRange}
 use Rattle.rules.proofs.Told.{unless-refused}
 use Rattle.rules.proofs.Setups.{accepted-sizes}
 use Rattle.rules.proofs.Refusals.{callRefusal-after, numbers-exist}
+use Rattle.rules.proofs.Entries.{called-refused}
 
 -- four numbers are a call exactly where no refusal is given for them
 pub decoded-is : (s : Setup) (n : Numbers) (c : Call) → decoded s n ≡ Is c → (numbersRefusal s n ≡ 0) × (callOf n ≡ c)
@@ -62,7 +62,6 @@ ran-not s m n k e = let d = decoded-not s n k e in rw (d .0) (unless-refused k _
 
 -- what is held against the setup or the store is the answer, whatever the call is
 pub called-unjudged : (s : Setup) (m : Store) (n : Numbers) → judgeRefusal s m ≢ 0 → called s m n ≡ record { answer = Refused (judgeRefusal s m); store = m }
-unfolding called
 called-unjudged s m n h =
     let same : callRefusal s m n ≡ judgeRefusal s m = callRefusal-after s m n ∙ unless-refused (judgeRefusal s m) _ _ h in
-    rw same (unless-refused (judgeRefusal s m) _ _ h)
+    rw same at (called-refused s m n (rw same h))

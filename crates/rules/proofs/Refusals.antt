@@ -13,7 +13,9 @@ use Rattle.rules.specs.Sizes.{every, someBelow}
 use Rattle.rules.specs.Setups.{SetupBytes, rightBoth, entryFits, accepted}
 use Rattle.rules.specs.Stores.{fits}
 use Rattle.rules.specs.Calls.{Numbers, firstCode, lastCode, codeOfWrite, codeOfCopy, callOf}
-use Rattle.rules.specs.Refusals.{Refusal, _gives_, firstOf, slicesMatch, someFrom, refusal15, refusal16, setupOrder, setupRefusal, callOrder, numbersOrder, callRefusal, freshRefusal, judgeRefusal, numbersRefusal}
+use Rattle.rules.specs.Refusals.{Refusal, firstOf, slicesMatch, someFrom, setupOrder, numbersOrder}
+use Rattle.rules.specs.Refusals.{refusal5, refusal7, refusal8, refusal9, refusal15, refusal16}
+use Rattle.rules.specs.Refusals.{setupRefusal, callRefusal, freshRefusal, judgeRefusal, numbersRefusal}
 use Rattle.rules.specs.Entries.{unless}
 use Rattle.rules.specs.declared.Setup.{Setup}
 use Rattle.rules.specs.declared.Store.{Store}
@@ -98,54 +100,77 @@ pub record Sound (s : Setup) (n : Numbers) : Type 0 where
   pub idle : n .operation ≢ codeOfWrite → n .operation ≢ codeOfCopy → n .extra ≡ 0
   pub apart : n .operation ≡ codeOfCopy → n .extra ≢ n .file
 
+module _ (n : Numbers) where
+  -- refusal 5 is not given exactly where the operation is a code
+  code-iff : (refusal5 n .0 ≡ false) ↔ ((firstCode ≤ n .operation) × (n .operation ≤ lastCode))
+  code-iff =
+      let i = neither (ltb (n .operation) firstCode) (ltb lastCode (n .operation)) in (
+        λ e. (ltb-false (n .operation) firstCode (i .0 e .0), ltb-false lastCode (n .operation) (i .0 e .1)),
+        λ h. i .1 (le-ltb (n .operation) firstCode (h .0), le-ltb lastCode (n .operation) (h .1)),
+      )
+
+  -- what is asked for COPY alone fails exactly where it fails for COPY
+  copy-iff : (b : Bool) → (eqb (n .operation) codeOfCopy && b ≡ false) ↔ (n .operation ≡ codeOfCopy → b ≡ false)
+  copy-iff b =
+      let i = not-both (eqb (n .operation) codeOfCopy) b in
+      (λ e q. i .0 e (eq-eqb (n .operation) codeOfCopy q), λ h. i .1 (λ t. h (eqb-true (n .operation) codeOfCopy t)))
+
+  -- refusal 7 is not given exactly where the files that the call names exist
+  files-iff : (s : Setup) → (refusal7 s n .0 ≡ false) ↔ ((n .file < s .files) × (n .operation ≡ codeOfCopy → n .extra < s .files))
+  files-iff s =
+      let i = neither (leb (s .files) (n .file)) (eqb (n .operation) codeOfCopy && leb (s .files) (n .extra)) in
+      let target = copy-iff (leb (s .files) (n .extra)) in (
+        λ e. (leb-false (s .files) (n .file) (i .0 e .0), λ q. leb-false (s .files) (n .extra) (target .0 (i .0 e .1) q)),
+        λ h. i .1 (lt-leb (s .files) (n .file) (h .0), target .1 (λ q. lt-leb (s .files) (n .extra) (h .1 q))),
+      )
+
+  -- refusal 8 is not given exactly where the extra is 0 for a call that has none
+  idle-iff : (refusal8 n .0 ≡ false) ↔ (n .operation ≢ codeOfWrite → n .operation ≢ codeOfCopy → n .extra ≡ 0)
+  idle-iff =
+      let write = eqb (n .operation) codeOfWrite in
+      let copy = eqb (n .operation) codeOfCopy in
+      let i = not-both (not (write || copy)) (not (eqb (n .extra) 0)) in
+      let none = neither write copy in (
+        λ e w c.
+            let idle = none .1 (ne-eqb (n .operation) codeOfWrite w, ne-eqb (n .operation) codeOfCopy c) in
+            eqb-true (n .extra) 0 (not-false _ (i .0 e (ap not idle))),
+        λ h.
+            i .1
+            (λ t.
+            let (w, c) = none .0 (not-true (write || copy) t) in
+            ap not (eq-eqb (n .extra) 0 (h (eqb-false (n .operation) codeOfWrite w) (eqb-false (n .operation) codeOfCopy c)))),
+      )
+
+  -- refusal 9 is not given exactly where COPY has two files
+  apart-iff : (refusal9 n .0 ≡ false) ↔ (n .operation ≡ codeOfCopy → n .extra ≢ n .file)
+  apart-iff =
+      let i = copy-iff (eqb (n .extra) (n .file)) in
+      (λ e q. eqb-false (n .extra) (n .file) (i .0 e q), λ h. i .1 (λ q. ne-eqb (n .extra) (n .file) (h q)))
+
 -- no refusal is given for numbers exactly where they are sound
 pub numbersRefusal-iff : (s : Setup) (n : Numbers) → (numbersRefusal s n ≡ 0) ↔ Sound s n
 unfolding numbersRefusal
 numbersRefusal-iff s n =
-    let i = unmet-iff (numbersOrder s n) (omega arith) in
-    let write = eqb (n .operation) codeOfWrite in
-    let copy = eqb (n .operation) codeOfCopy in
-    let code = neither (ltb (n .operation) firstCode) (ltb lastCode (n .operation)) in
-    let file = neither (leb (s .files) (n .file)) (copy && leb (s .files) (n .extra)) in
-    let target = not-both copy (leb (s .files) (n .extra)) in
-    let with-extra = neither write copy in
-    let idle = not-both (not (write || copy)) (not (eqb (n .extra) 0)) in
-    let apart = not-both copy (eqb (n .extra) (n .file)) in (
+    let i = unmet-iff (numbersOrder s n) (omega arith) in (
       λ e.
-          let u = i .0 e in
+          let (u5, (u6, (u7, (u8, (u9, end))))) = i .0 e in
+          let code = code-iff n .0 u5 in
+          let files = files-iff n s .0 u7 in
           record {
-            first-code = ltb-false (n .operation) firstCode (code .0 (u .0) .0);
-            last-code = ltb-false lastCode (n .operation) (code .0 (u .0) .1);
-            process = leb-false (s .processes) (n .process) (u .1 .0);
-            file = leb-false (s .files) (n .file) (file .0 (u .1 .1 .0) .0);
-            target = λ q. leb-false (s .files) (n .extra) (target .0 (file .0 (u .1 .1 .0) .1) (eq-eqb (n .operation) codeOfCopy q));
-            idle =
-                λ w c.
-                eqb-true (n .extra) 0
-                (not-false _
-                (idle .0 (u .1 .1 .1 .0) (ap not (with-extra .1 (ne-eqb (n .operation) codeOfWrite w, ne-eqb (n .operation) codeOfCopy c)))));
-            apart = λ q. eqb-false (n .extra) (n .file) (apart .0 (u .1 .1 .1 .1 .0) (eq-eqb (n .operation) codeOfCopy q));
+            first-code = code .0;
+            last-code = code .1;
+            process = leb-false (s .processes) (n .process) u6;
+            file = files .0;
+            target = files .1;
+            idle = idle-iff n .0 u8;
+            apart = apart-iff n .0 u9;
           },
       λ h.
           i .1 (
-            code .1 (le-ltb (n .operation) firstCode (h .first-code), le-ltb lastCode (n .operation) (h .last-code)),
+            code-iff n .1 (h .first-code, h .last-code),
             (
               lt-leb (s .processes) (n .process) (h .process),
-              (
-                file .1 (
-                  lt-leb (s .files) (n .file) (h .file),
-                  target .1 (λ t. lt-leb (s .files) (n .extra) (h .target (eqb-true (n .operation) codeOfCopy t))),
-                ),
-                (
-                  idle .1
-                      (λ t.
-                      let none = with-extra .0 (not-true (write || copy) t) in
-                      ap not
-                      (eq-eqb (n .extra) 0
-                      (h .idle (eqb-false (n .operation) codeOfWrite (none .0)) (eqb-false (n .operation) codeOfCopy (none .1))))),
-                  (apart .1 (λ t. ne-eqb (n .extra) (n .file) (h .apart (eqb-true (n .operation) codeOfCopy t))), tt),
-                ),
-              ),
+              (files-iff n s .1 (h .file, h .target), (idle-iff n .1 (h .idle), (apart-iff n .1 (h .apart), tt))),
             ),
           ),
     )

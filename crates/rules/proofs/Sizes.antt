@@ -2,14 +2,16 @@
 -- Assumes nothing.
 use Prim.Native.Nat.{ℕ, zero, suc, _+_, _<_, _≤_}
 use mathlib.Core.Path.{_≡_, refl, ap, sym, _∙_, subst}
-use mathlib.Core.Bool.{Bool, true, false, not, _&&_, and-eq-true-iff, and-false}
-use mathlib.Core.List.{List, []}
-use mathlib.Core.Logic.{⊎-elim}
-use native.Mathlib.Nat.{not-suc-le-zero, le-of-suc-le-suc, eq-or-lt-of-le, lt-trans}
+use mathlib.Core.Bool.{Bool, true, false, not, _&&_, and-eq-true-iff, and-false, true≢false}
+use mathlib.Core.List.{List}
+use mathlib.Core.Logic.{_↔_, ⊎-elim}
+use native.Mathlib.Nat.{not-suc-le-zero, le-of-suc-le-suc, eq-or-lt-of-le}
 use native.Mathlib.Omega.{arith}
+use borrow.Author.Tests.{not-true, not-false}
 use lib.ListN.{length, getD, take, drop, length-take, length-drop, List·getD-eq-default}
 use lib.Seq.{ext-getD, getD-take, getD-drop}
 use Rattle.rules.specs.Sizes.{every, someBelow, table}
+use Rattle.rules.proofs.Lists.{by-test, not-both}
 
 -- what holds of every number below n holds of each, and the other way
 pub every-at : (n : ℕ) (p : ℕ → Bool) → every n p ≡ true → (k : ℕ) → k < n → p k ≡ true
@@ -32,6 +34,14 @@ every-false zero p k h e = absurd (not-suc-le-zero h)
 every-false (suc n) p k h e =
     ⊎-elim (λ q. ap (λ (b : Bool). every n p && b) (subst (λ (i : ℕ). p i ≡ false) q e) ∙ and-false (every n p))
     (λ l. ap (λ (b : Bool). b && p n) (every-false n p k l e)) (eq-or-lt-of-le (le-of-suc-le-suc h))
+
+-- where it does not hold of every number below n, there is one of which it does not
+every-fails : (n : ℕ) (p : ℕ → Bool) → every n p ≡ false → (k : ℕ) × (k < n) × (p k ≡ false)
+unfolding every
+every-fails zero p e = absurd (true≢false e)
+every-fails (suc n) p e =
+    by-test (every n p) (λ t. (n, omega arith, not-both (every n p) (p n) .0 e t))
+    (λ f. let (k, l, h) = every-fails n p f in (k, omega arith, h))
 
 -- conditions that agree below n are joined alike
 pub every-cong : (n : ℕ) (p q : ℕ → Bool) → ((k : ℕ) → k < n → p k ≡ q k) → every n p ≡ every n q
@@ -61,7 +71,8 @@ pub past-end : (xs : List ℕ) (i n : ℕ) → length xs ≡ n → n ≤ i → 0
 past-end xs i n l h = sym (List·getD-eq-default xs 0 (omega arith))
 
 -- a condition on the entries of a part is one on the entries of the whole, from the part's start on
-pub every-part : (xs : List ℕ) (start n : ℕ) (p : ℕ → ℕ → Bool) → start + n ≤ length xs → every (length (take n (drop start xs))) (λ i. p i (getD (take n (drop start xs)) i 0)) ≡ every n (λ i. p i (getD xs (start + i) 0))
+pub every-part : (xs : List ℕ) (start n : ℕ) (p : ℕ → ℕ → Bool) → start + n ≤ length xs
+    → every (length (take n (drop start xs))) (λ i. p i (getD (take n (drop start xs)) i 0)) ≡ every n (λ i. p i (getD xs (start + i) 0))
 every-part xs start n p h =
     let long : length (take n (drop start xs)) ≡ n = simp (length-take, length-drop) (omega arith) in
     ap (λ (k : ℕ). every k (λ i. p i (getD (take n (drop start xs)) i 0))) long
@@ -71,3 +82,11 @@ every-part xs start n p h =
 pub someBelow-true : (n : ℕ) (p : ℕ → Bool) (k : ℕ) → k < n → p k ≡ true → someBelow n p ≡ true
 unfolding someBelow
 someBelow-true n p k h e = ap not (every-false n (λ i. not (p i)) k h (ap not e))
+
+-- it holds of some number below n exactly where there is a number below n of which it holds
+pub someBelow-iff : (n : ℕ) (p : ℕ → Bool) → (someBelow n p ≡ true) ↔ ((k : ℕ) × (k < n) × (p k ≡ true))
+unfolding someBelow
+someBelow-iff n p = (
+  λ e. let (k, l, h) = every-fails n (λ i. not (p i)) (not-true _ e) in (k, l, not-false (p k) h),
+  λ h. someBelow-true n p (h .0) (h .1) (h .2),
+)
