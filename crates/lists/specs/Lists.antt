@@ -1,0 +1,88 @@
+-- 01, "Lists and answers": a list of calls, its run and its answers, and the refusals of a list as a whole.
+use Prim.Native.Nat.{ℕ, _+_, _*_, _/_, _%_}
+use mathlib.Core.Bool.{not, _||_}
+use mathlib.Core.List.{List, [], _∷_, _++_}
+use lib.Dec.{ltb, eqb}
+use lib.ListN.{length, getD, drop}
+use Rattle.secrecy.specs.Machine.{after, allAnswers}
+use Rattle.rules.specs.Sizes.{table}
+use Rattle.rules.specs.Calls.{Numbers, numbers}
+use Rattle.rules.specs.Answers.{kindOf, valueOf}
+use Rattle.rules.specs.Refusals.{Refusal, _gives_, firstOf, refusal15, refusal16}
+use Rattle.rules.specs.Entries.{unless}
+use Rattle.rules.specs.declared.Setup.{Setup}
+use Rattle.rules.specs.declared.Store.{Store}
+use Rattle.rules.specs.declared.Answer.{Answer}
+use Rattle.views.specs.Machine.{machine}
+use Rattle.lists.specs.declared.ListAnswer.{ListAnswer}
+use Rattle.lists.specs.declared.ListAnswer.the-variants.{Ran, Stopped}
+use Rattle.lists.specs.declared.Listed.{Listed}
+
+-- the last row of "Sizes": calls in a list, from 0 to
+abbrev pub mostCalls : ℕ
+mostCalls = 1024
+
+-- "A list is a lent run of 32-bit numbers, four a call. Each answer is two numbers"
+abbrev pub callWidth : ℕ
+callWidth = 4
+
+abbrev pub answerWidth : ℕ
+answerWidth = 2
+
+abbrev pub callsIn : List ℕ → ℕ
+callsIn list = length list / callWidth
+
+abbrev pub numbersAt : List ℕ → ℕ → Numbers
+numbersAt list i =
+    let at = i * callWidth in
+    numbers (getD list at 0) (getD list (at + 1) 0) (getD list (at + 2) 0) (getD list (at + 3) 0)
+
+unfoldable pub callsOf : List ℕ → List Numbers
+callsOf list = table (callsIn list) (numbersAt list)
+
+-- where a run of calls ends, and what it answers: every call in order, refused ones too
+abbrev pub endOf : Setup → Store → List Numbers → Store
+endOf s = after (machine s)
+
+abbrev pub answersOver : Setup → Store → List Numbers → List Answer
+answersOver s = allAnswers (machine s)
+
+-- answers as numbers, two each
+unfoldable pub inNumbers : List Answer → List ℕ
+inNumbers [] = []
+inNumbers (a ∷ rest) = kindOf a ∷ valueOf a ∷ inNumbers rest
+
+-- "a list's length is not a multiple of 4, or is above 4,096"
+abbrev pub refusal10 : ℕ → Refusal
+refusal10 numbers = not (eqb (numbers % callWidth) 0) || ltb (mostCalls * callWidth) numbers gives 10
+
+-- "answers shorter than two numbers a call"
+abbrev pub refusal11 : ℕ → ℕ → Refusal
+refusal11 numbers room = ltb room (numbers / callWidth * answerWidth) gives 11
+
+-- "List as a whole: 15, 16, 10, 11, and then nothing runs and nothing is written"
+abbrev pub listOrder : Setup → Store → ℕ → ℕ → List Refusal
+listOrder s m numbers room = refusal15 s ∷ refusal16 s m ∷ refusal10 numbers ∷ refusal11 numbers room ∷ []
+
+unfoldable pub listRefusal : Setup → Store → ℕ → ℕ → ℕ
+listRefusal s m numbers room = firstOf (listOrder s m numbers room)
+
+-- the number of calls run, or the refusal, and the next store
+unfoldable pub listed : Setup → Store → List ℕ → List ℕ → Listed
+listed s m list room =
+    let r = listRefusal s m (length list) (length room) in
+    unless r
+    (record { answer = Ran (callsIn list); store = endOf s m (callsOf list) })
+    (record { answer = Stopped r; store = m })
+
+-- "Answers fill the front of a lent run; .. what lies past the written part keeps its values"
+unfoldable pub roomAfter : Setup → Store → List ℕ → List ℕ → List ℕ
+roomAfter s m list room =
+    unless (listRefusal s m (length list) (length room))
+    (inNumbers (answersOver s m (callsOf list)) ++ drop (callsIn list * answerWidth) room)
+    room
+
+-- 01's kinds for the answer to a list: 0 with the number of calls run, 4 with the refusal
+abbrev pub listNumbersOf : ListAnswer → ℕ × ℕ
+listNumbersOf (Ran calls) = (0, calls)
+listNumbersOf (Stopped refusal) = (4, refusal)

@@ -1,0 +1,182 @@
+// Running a list of calls: the refusals of the list as a whole, the loop, and the entry.
+use crate::ANSWER_WIDTH;
+use crate::CALL_WIDTH;
+use crate::CALLS;
+use crate::ListAnswer;
+use crate::Listed;
+use calling::decoding::decode;
+use calling::entry::changeable;
+use calling::entry::file_of;
+use calling::entry::process_of;
+use calling::stepping::step;
+use judging::fitting::judge;
+use judging::rights::has_r;
+use judging::rights::has_w;
+use judging::rights::right_of;
+use rules::Answer;
+use rules::Call;
+use rules::Decoded;
+use rules::Looks;
+use rules::Setup;
+use rules::Sheet;
+use rules::Store;
+ghost use mathlib.Core.Path.{_≡_};
+ghost use mathlib.Core.Bool.{true};
+ghost use mathlib.Core.List.{_++_};
+ghost use Prim.Native.Nat.{_+_, _*_, _<_, _≤_};
+ghost use lib.ListN.{length, set, drop};
+ghost use Rattle.rules.specs.Setups.{accepted};
+ghost use Rattle.rules.specs.Answers.{kindOf, valueOf};
+ghost use Rattle.rules.specs.Entries.{decoded};
+ghost use Rattle.lists.specs.Lists.{answerWidth, callsIn, numbersAt, callsOf, endOf, answersOver, inNumbers, listRefusal, listed, roomAfter, listNumbersOf};
+ghost use Rattle.lists.specs.Looking.{looksOn};
+
+fn kind_of(answer: Answer) -> u32
+    ensures { λ r. ⌜ r ≡ kindOf answer ⌝ }
+{
+    match answer {
+        Answer::Nothing => 0,
+        Answer::Figure(_) => 1,
+        Answer::Yes => 2,
+        Answer::No => 3,
+        Answer::Refused(_) => 4,
+    }
+}
+
+fn value_of(answer: Answer) -> u32
+    ensures { λ r. ⌜ r ≡ valueOf answer ⌝ }
+{
+    match answer {
+        Answer::Nothing => 0,
+        Answer::Figure(figure) => figure,
+        Answer::Yes => 0,
+        Answer::No => 0,
+        Answer::Refused(refusal) => refusal,
+    }
+}
+
+// The answer to call i, as two numbers at its place.
+fn put(answers: &mut [u32], i: usize, answer: Answer)
+    requires { ⌜ i * answerWidth + answerWidth ≤ length (now answers) ⌝ }
+    ensures { λ _. ⌜ now (answers .exit) ≡ set (set (now (answers .entry)) (i * answerWidth) (kindOf answer)) (i * answerWidth + 1) (valueOf answer) ⌝ }
+{
+    let at = i * ANSWER_WIDTH;
+    answers[at] = kind_of(answer);
+    answers[at + 1] = value_of(answer);
+}
+
+fn look_on(
+    rights: &[u8],
+    desk: &[u8],
+    class: &[u8],
+    call: Call,
+    source: Sheet,
+    target: Sheet,
+) -> Looks
+    ensures { λ r. ⌜ r ≡ looksOn (now (rights .entry)) (now (desk .entry)) (now (class .entry)) call source target ⌝ }
+{
+    let p = process_of(call) as usize;
+    let f = file_of(call) as usize;
+    let x = changeable(call) as usize;
+    let r = has_r(right_of(rights, desk, class, p, f));
+    let w = has_w(right_of(rights, desk, class, p, x));
+    Looks {
+        r,
+        w,
+        source,
+        target,
+    }
+}
+
+// Call i of a list, or its refusal.
+fn decode_at(setup: Setup, calls: &[u32], i: usize) -> Decoded
+    requires { ⌜ i < callsIn (now calls) ⌝ }
+    ensures { λ r. ⌜ r ≡ decoded setup (numbersAt (now (calls .entry)) i) ⌝ }
+{
+    let at = i * CALL_WIDTH;
+    decode(
+        setup,
+        calls[at],
+        calls[at + 1],
+        calls[at + 2],
+        calls[at + 3],
+    )
+}
+
+// Runs every call of a list in order. The store is one local: each call writes one sheet of it.
+fn run_all(setup: Setup, store: Store, calls: &[u32], answers: &mut [u32]) -> Store
+    requires { ⌜ (accepted setup ≡ true) × (callsIn (now calls) * answerWidth ≤ length (now answers)) ⌝ }
+    ensures ends { λ r. ⌜ r ≡ endOf setup store (callsOf (now (calls .entry))) ⌝ }
+    ensures answered { λ _. ⌜ now (answers .exit) ≡ inNumbers (answersOver setup store (callsOf (now (calls .entry)))) ++ drop (callsIn (now (calls .entry)) * answerWidth) (now (answers .entry)) ⌝ }
+{
+    let rights = setup.rights;
+    let desk = setup.desk;
+    let class = setup.class;
+    let count = calls.len() / CALL_WIDTH;
+    let mut next = store;
+    let mut i = 0;
+    while i < count {
+        let after = i + 1;
+        let decoded = decode_at(setup, calls, i);
+        match decoded {
+            Decoded::Not(number) => {
+                put(answers, i, Answer::Refused(number));
+                i = after; // a refused call gets its answer, and the list goes on
+            }
+            Decoded::Is(call) => {
+                let f = file_of(call) as usize;
+                let x = changeable(call) as usize;
+                let source = next.files[f];
+                let target = next.files[x];
+                let look = look_on(&rights, &desk, &class, call, source, target);
+                let turn = step(call, look);
+                let answer = turn.answer;
+                let sheet = turn.sheet;
+                next.files[x] = sheet;
+                put(answers, i, answer);
+                i = after;
+            }
+        }
+    }
+    next
+}
+
+// The refusal of a list as a whole, or 0: the order is 15, 16, 10, 11.
+fn list_refusal(setup: Setup, store: Store, numbers: usize, room: usize) -> u32
+    ensures { λ r. ⌜ r ≡ listRefusal setup store numbers room ⌝ }
+{
+    let judged = judge(setup, store);
+    if judged != 0 {
+        return judged;
+    }
+    if numbers % CALL_WIDTH != 0 {
+        return 10;
+    }
+    if CALLS * CALL_WIDTH < numbers {
+        return 10;
+    }
+    if room < numbers / CALL_WIDTH * ANSWER_WIDTH {
+        return 11;
+    }
+    0
+}
+
+// Entry: runs a list. The setup and the store are judged once; a refused list runs nothing and writes nothing.
+pub fn run(setup: Setup, store: Store, calls: &[u32], answers: &mut [u32]) -> Listed
+    ensures { λ r. ⌜ r ≡ listed setup store (now (calls .entry)) (now (answers .entry)) ⌝ }
+    ensures room { λ _. ⌜ now (answers .exit) ≡ roomAfter setup store (now (calls .entry)) (now (answers .entry)) ⌝ }
+    ensures numbers { λ r. ⌜ listNumbersOf (r .answer) ≡ listNumbersOf (listed setup store (now (calls .entry)) (now (answers .entry)) .answer) ⌝ }
+{
+    let refusal = list_refusal(setup, store, calls.len(), answers.len());
+    if refusal != 0 {
+        let answer = ListAnswer::Stopped(refusal);
+        return Listed { answer, store };
+    }
+    let count = calls.len() / CALL_WIDTH;
+    let next = run_all(setup, store, calls, answers);
+    let answer = ListAnswer::Ran(count as u32);
+    Listed {
+        answer,
+        store: next,
+    }
+}
