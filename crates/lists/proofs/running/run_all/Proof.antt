@@ -143,6 +143,8 @@ run-all-spec =
     decode-at-requires
     enum-known-decoded
     put-requires
+    loop-less
+    loop-again
     enum-known-decoded-2
     file-of-requires
     cast-f
@@ -160,8 +162,6 @@ run-all-spec =
     mul-sheet
     element-set-from-sheet
     put-requires-2
-    loop-less
-    loop-again
     loop-less-2
     loop-again-2
     same-length
