@@ -1,0 +1,324 @@
+/* Times the library against the hand-written peer, on the same calls in the same run, and compares all that they answer.
+ *
+ * A list of 1,024 mixed calls, of which most go through, is run from a fresh store by each form that the library has. Every
+ * run is timed by itself, library and peer by turns, and the medians are compared. Then the stack that one call takes is
+ * measured. Its exit status is 1 where an answer or a store differs. */
+#include <stdio.h>
+#include <stdlib.h>
+#include <string.h>
+#include <time.h>
+
+#include "peer.h"
+
+enum { RUNS = 101, ANSWERS = DW_CALLS * DW_ANSWER_WIDTH };
+
+static dw_setup setup;
+static dw_store fresh;
+static uint32_t calls[DW_CALLS * DW_CALL_WIDTH];
+
+/* ---- The calls. */
+
+static uint32_t state = 20261;
+
+/* Numbers below a bound in no order, the same in each run. */
+static uint32_t below(uint32_t bound)
+{
+    state ^= state << 13;
+    state ^= state >> 17;
+    state ^= state << 5;
+    return (state >> 8) % bound;
+}
+
+/* As large as a setup can be. One right in sixteen is not both. */
+static void make_setup(void)
+{
+    setup.desks = DW_DESKS;
+    setup.classes = DW_CLASSES;
+    setup.processes = DW_PROCESSES;
+    setup.files = DW_FILES;
+    for (uint32_t i = 0; i < DW_RIGHTS; i++)
+        setup.rights[i] = (uint8_t)(below(16) == 0 ? below(DW_RW) : DW_RW);
+    for (uint32_t p = 0; p < DW_PROCESSES; p++)
+        setup.desk_of[p] = (uint8_t)below(DW_DESKS);
+    for (uint32_t f = 0; f < DW_FILES; f++)
+        setup.class_of[f] = (uint8_t)below(DW_CLASSES);
+}
+
+/* The first file from f on, around the end, that is locked, or is not; f if there is none. */
+static uint32_t file_from(const dw_store *m, uint32_t f, int locked)
+{
+    for (uint32_t i = 0; i < DW_FILES; i++) {
+        uint32_t at = (f + i) % DW_FILES;
+
+        if ((m->files[at].holder != 0) == locked)
+            return at;
+    }
+    return f;
+}
+
+/* The first process from p on that has the file open; p if there is none. */
+static uint32_t reader_from(const dw_store *m, uint32_t f, uint32_t p)
+{
+    for (uint32_t i = 0; i < DW_PROCESSES; i++)
+        if (m->files[f].readers[(p + i) % DW_PROCESSES])
+            return (p + i) % DW_PROCESSES;
+    return p;
+}
+
+/* The first unlocked file from f on that the process has open; f if there is none. */
+static uint32_t source_from(const dw_store *m, uint32_t f, uint32_t p)
+{
+    for (uint32_t i = 0; i < DW_FILES; i++) {
+        const dw_sheet *sheet = &m->files[(f + i) % DW_FILES];
+
+        if (sheet->readers[p] && sheet->holder == 0)
+            return (f + i) % DW_FILES;
+    }
+    return f;
+}
+
+/* The process that has some locked file, from f on; p if none is locked. */
+static uint32_t holder_from(const dw_store *m, uint32_t f, uint32_t p)
+{
+    uint32_t holder = m->files[file_from(m, f, 1)].holder;
+
+    return holder != 0 ? holder - 1 : p;
+}
+
+/* Any operation, its numbers then picked so that it is likely to go through. */
+static void pick_call(const dw_store *m, uint32_t *call)
+{
+    static const uint8_t mix[] = {DW_READ,  DW_READ,     DW_WRITE, DW_WRITE, DW_LOCK, DW_UNLOCK, DW_OPEN,
+                                  DW_CLOSE, DW_TESTLOCK, DW_COPY,  DW_OPEN};
+    uint32_t op = mix[below(sizeof mix)], p = below(DW_PROCESSES), f = below(DW_FILES), x = 0;
+
+    switch (op) {
+    case DW_WRITE:
+    case DW_UNLOCK:
+        x = op == DW_WRITE ? below(1000000) : 0;
+        p = holder_from(m, f, p);
+        f = file_from(m, f, 1);
+        break;
+    case DW_COPY:
+        p = holder_from(m, f, p);
+        x = file_from(m, f, 1);
+        f = source_from(m, f, p);
+        break;
+    case DW_OPEN:
+        p = below(2) ? holder_from(m, f, p) : p;
+        f = file_from(m, f, 0);
+        break;
+    default:
+        f = file_from(m, f, 0);
+        if (op == DW_READ || op == DW_CLOSE)
+            p = reader_from(m, f, p);
+    }
+    call[0] = op;
+    call[1] = p;
+    call[2] = f;
+    call[3] = x;
+}
+
+/* One call in sixteen is of any numbers, refused or not. */
+static void any_call(uint32_t *call)
+{
+    call[0] = below(10);
+    call[1] = below(DW_PROCESSES + 2);
+    call[2] = below(DW_FILES + 2);
+    call[3] = below(3);
+}
+
+/* Answers how many calls changed the store or answered more than nothing: so many went through, at the least. */
+static int make_calls(void)
+{
+    static dw_store m, was;
+    int went = 0;
+
+    m = fresh;
+    for (uint32_t i = 0; i < DW_CALLS; i++) {
+        uint32_t *call = calls + i * DW_CALL_WIDTH;
+        dw_answer a;
+
+        if (below(16) == 0)
+            any_call(call);
+        else
+            pick_call(&m, call);
+        was = m;
+        a = peer_call(&setup, &m, call[0], call[1], call[2], call[3]);
+        went += (a.kind != DW_NOTHING && a.kind != DW_REFUSED) || memcmp(&m, &was, sizeof m) != 0;
+    }
+    return went;
+}
+
+/* ---- The forms. Each runs the list on a store in place. */
+
+typedef void form(dw_store *m, uint32_t *answers);
+
+static void put(uint32_t *answers, uint32_t i, dw_answer a)
+{
+    answers[i * DW_ANSWER_WIDTH] = a.kind;
+    answers[i * DW_ANSWER_WIDTH + 1] = a.value;
+}
+
+static void peer_list(dw_store *m, uint32_t *answers)
+{
+    peer_run(&setup, m, calls, sizeof calls / sizeof calls[0], answers, ANSWERS);
+}
+
+static void peer_calls(dw_store *m, uint32_t *answers)
+{
+    for (uint32_t i = 0; i < DW_CALLS; i++) {
+        const uint32_t *c = calls + i * DW_CALL_WIDTH;
+
+        put(answers, i, peer_call(&setup, m, c[0], c[1], c[2], c[3]));
+    }
+}
+
+static void value_calls(dw_store *m, uint32_t *answers)
+{
+    for (uint32_t i = 0; i < DW_CALLS; i++) {
+        const uint32_t *c = calls + i * DW_CALL_WIDTH;
+        dw_called called = dw_call(setup, *m, c[0], c[1], c[2], c[3]);
+
+        *m = called.store;
+        put(answers, i, called.answer);
+    }
+}
+
+#ifdef HAS_IN_PLACE
+static void place_calls(dw_store *m, uint32_t *answers)
+{
+    for (uint32_t i = 0; i < DW_CALLS; i++) {
+        const uint32_t *c = calls + i * DW_CALL_WIDTH;
+
+        put(answers, i, dw_call_in_place(setup, m, c[0], c[1], c[2], c[3]));
+    }
+}
+#endif
+
+#ifdef HAS_RUN
+static void value_list(dw_store *m, uint32_t *answers)
+{
+    *m = dw_run(setup, *m, calls, sizeof calls / sizeof calls[0], answers, ANSWERS).store;
+}
+#endif
+
+/* ---- The clock. */
+
+static double now(void)
+{
+    struct timespec t;
+
+    clock_gettime(CLOCK_MONOTONIC, &t);
+    return (double)t.tv_sec * 1e6 + (double)t.tv_nsec / 1e3;
+}
+
+static int by_size(const void *one, const void *other)
+{
+    double a = *(const double *)one, b = *(const double *)other;
+
+    return a < b ? -1 : a > b;
+}
+
+static double median(double *times)
+{
+    qsort(times, RUNS, sizeof times[0], by_size);
+    return times[RUNS / 2];
+}
+
+/* One run from the fresh store: its time in microseconds, with the store and the answers left for comparing. */
+static double timed(form *run, dw_store *m, uint32_t *answers)
+{
+    double began;
+
+    *m = fresh;
+    memset(answers, 0xFF, ANSWERS * sizeof answers[0]);
+    began = now();
+    run(m, answers);
+    return now() - began;
+}
+
+/* ---- The stack. A form is run on a stack of its own that was painted before; what is still painted was never reached. */
+
+enum { STACK = 1 << 18, PAINT = 0xA5 };
+
+static uint8_t stack[STACK] __attribute__((aligned(64)));
+static form *stacked_form;
+static dw_store stacked_store;
+static uint32_t stacked_answers[ANSWERS];
+
+__attribute__((used)) static void stacked(void)
+{
+    stacked_form(&stacked_store, stacked_answers);
+}
+
+static long stack_of(form *run)
+{
+    long unused = 0;
+
+    stacked_form = run;
+    stacked_store = fresh;
+    memset(stack, PAINT, sizeof stack);
+    __asm__ volatile("movq %%rsp, %%rbx\n\tmovq %0, %%rsp\n\tcall stacked\n\tmovq %%rbx, %%rsp"
+                     :
+                     : "r"(stack + STACK)
+                     : "rax", "rbx", "rcx", "rdx", "rsi", "rdi", "r8", "r9", "r10", "r11", "xmm0", "xmm1", "xmm2",
+                       "xmm3", "xmm4", "xmm5", "xmm6", "xmm7", "xmm8", "xmm9", "xmm10", "xmm11", "xmm12", "xmm13",
+                       "xmm14", "xmm15", "memory", "cc");
+    while (unused < STACK && stack[unused] == PAINT)
+        unused++;
+    return STACK - unused;
+}
+
+/* ---- The table. */
+
+static int differs;
+
+/* The peer's own row of the same kind is what a form is held to. */
+static void measure(const char *name, form *ours, form *peers)
+{
+    static double our_times[RUNS], peer_times[RUNS];
+    static dw_store our_store, peer_store;
+    static uint32_t our_answers[ANSWERS], peer_answers[ANSWERS];
+    double our_time, peer_time;
+
+    for (int i = 0; i < RUNS; i++) {
+        our_times[i] = timed(ours, &our_store, our_answers);
+        peer_times[i] = timed(peers, &peer_store, peer_answers);
+        differs |= memcmp(our_answers, peer_answers, sizeof our_answers) != 0;
+        differs |= memcmp(&our_store, &peer_store, sizeof our_store) != 0;
+    }
+    our_time = median(our_times);
+    peer_time = median(peer_times);
+    printf("%-32s %10.1f %10.1f %8.2f %12ld %8ld\n", name, our_time, peer_time, our_time / peer_time, stack_of(ours),
+           stack_of(peers));
+}
+
+int main(void)
+{
+    int went;
+
+    make_setup();
+    went = make_calls();
+    printf("%d calls, at least %d of which go through; the median of %d runs in microseconds, and bytes of stack\n",
+           DW_CALLS, went, RUNS);
+    printf("%-32s %10s %10s %8s %12s %8s\n", "", "library", "peer", "ratio", "stack", "peer's");
+#ifdef HAS_RUN
+    measure("(a) one list, dw_run", value_list, peer_list);
+#else
+    (void)peer_list;
+    printf("%-32s not in the library yet\n", "(a) one list, dw_run");
+#endif
+#ifdef HAS_IN_PLACE
+    measure("(b) calls by dw_call_in_place", place_calls, peer_calls);
+#else
+    printf("%-32s not in the library yet\n", "(b) calls by dw_call_in_place");
+#endif
+    measure("    calls by dw_call, by value", value_calls, peer_calls);
+    if (went * 2 < DW_CALLS) {
+        printf("FAILED: fewer than half of the calls go through\n");
+        return 1;
+    }
+    printf(differs ? "FAILED: an answer or a store differs\n" : "every answer and every store is the same\n");
+    return differs;
+}

@@ -1,0 +1,191 @@
+/* A store written by hand in C, as one would write it with no proof in mind: the same structs, the same checks
+ * in the same order, the same rules, on one store in place. Nothing here is proved; the benchmark compares every
+ * answer, and the stores. */
+#include "peer.h"
+
+/* ---- Judging. */
+
+/* Every entry before the count is below the bound, and every entry past it is 0. */
+static int entries_fit(const uint8_t *entries, uint32_t len, uint32_t count, uint32_t bound)
+{
+    for (uint32_t i = 0; i < count; i++)
+        if (entries[i] >= bound)
+            return 0;
+    for (uint32_t i = count; i < len; i++)
+        if (entries[i] != 0)
+            return 0;
+    return 1;
+}
+
+static int within(uint32_t count, uint32_t most)
+{
+    return count >= 1 && count <= most;
+}
+
+static int accepted(const dw_setup *s)
+{
+    if (!within(s->desks, DW_DESKS) || !within(s->classes, DW_CLASSES) ||
+        !within(s->processes, DW_PROCESSES) || !within(s->files, DW_FILES))
+        return 0;
+    for (uint32_t d = 0; d < DW_DESKS; d++)
+        if (!entries_fit(s->rights + d * DW_CLASSES, DW_CLASSES, d < s->desks ? s->classes : 0, DW_RW + 1))
+            return 0;
+    return entries_fit(s->desk_of, DW_PROCESSES, s->processes, s->desks) &&
+           entries_fit(s->class_of, DW_FILES, s->files, s->classes);
+}
+
+static uint8_t right_of(const dw_setup *s, uint32_t p, uint32_t f)
+{
+    return s->rights[s->desk_of[p] * DW_CLASSES + s->class_of[f]];
+}
+
+static int sheet_is_blank(const dw_sheet *sheet)
+{
+    return sheet->holder == 0 && sheet->figure == 0 && entries_fit(sheet->readers, DW_PROCESSES, 0, 0);
+}
+
+static int sheet_fits(const dw_setup *s, uint32_t f, const dw_sheet *sheet)
+{
+    if (sheet->holder > s->processes)
+        return 0;
+    if (sheet->holder != 0 && !(right_of(s, sheet->holder - 1, f) & DW_W))
+        return 0;
+    for (uint32_t p = 0; p < s->processes; p++)
+        if (sheet->readers[p] != 0 && (sheet->readers[p] != 1 || !(right_of(s, p, f) & DW_R)))
+            return 0;
+    for (uint32_t p = s->processes; p < DW_PROCESSES; p++)
+        if (sheet->readers[p] != 0)
+            return 0;
+    return 1;
+}
+
+static int store_fits(const dw_setup *s, const dw_store *m)
+{
+    for (uint32_t f = 0; f < s->files; f++)
+        if (!sheet_fits(s, f, &m->files[f]))
+            return 0;
+    for (uint32_t f = s->files; f < DW_FILES; f++)
+        if (!sheet_is_blank(&m->files[f]))
+            return 0;
+    return 1;
+}
+
+static uint32_t judge(const dw_setup *s, const dw_store *m)
+{
+    return !accepted(s) ? 15 : !store_fits(s, m) ? 16 : 0;
+}
+
+static uint32_t numbers_refusal(const dw_setup *s, uint32_t op, uint32_t p, uint32_t f, uint32_t x)
+{
+    if (op < DW_READ || op > DW_COPY)
+        return 5;
+    if (p >= s->processes)
+        return 6;
+    if (f >= s->files || (op == DW_COPY && x >= s->files))
+        return 7;
+    if (op != DW_WRITE && op != DW_COPY && x != 0)
+        return 8;
+    if (op == DW_COPY && x == f)
+        return 9;
+    return 0;
+}
+
+/* ---- Calls. */
+
+static dw_answer answer(uint32_t kind, uint32_t value)
+{
+    dw_answer a = {kind, value};
+
+    return a;
+}
+
+static int free_for(const dw_sheet *sheet, uint32_t p)
+{
+    return sheet->holder == 0 || sheet->holder == p + 1;
+}
+
+static void copy(const dw_setup *s, dw_store *m, uint32_t p, uint32_t f, uint32_t x)
+{
+    const dw_sheet *from = &m->files[f];
+    dw_sheet *to = &m->files[x];
+
+    if (right_of(s, p, f) & DW_R && right_of(s, p, x) & DW_W && from->readers[p] && free_for(from, p) &&
+        to->holder == p + 1)
+        to->figure = from->figure;
+}
+
+/* A call on a setup and a store that were judged. */
+static dw_answer step(const dw_setup *s, dw_store *m, uint32_t op, uint32_t p, uint32_t f, uint32_t x)
+{
+    uint32_t refusal = numbers_refusal(s, op, p, f, x);
+    dw_sheet *sheet;
+    int r, w;
+
+    if (refusal != 0)
+        return answer(DW_REFUSED, refusal);
+    sheet = &m->files[f];
+    r = right_of(s, p, f) & DW_R;
+    w = right_of(s, p, f) & DW_W;
+    switch (op) {
+    case DW_READ:
+        if (r && sheet->readers[p] && free_for(sheet, p))
+            return answer(DW_FIGURE, sheet->figure);
+        break;
+    case DW_WRITE:
+        if (w && sheet->holder == p + 1)
+            sheet->figure = x;
+        break;
+    case DW_LOCK:
+        if (w && sheet->holder == 0)
+            sheet->holder = p + 1;
+        break;
+    case DW_UNLOCK:
+        if (w && sheet->holder == p + 1)
+            sheet->holder = 0;
+        break;
+    case DW_OPEN:
+        if (r && sheet->holder == 0)
+            sheet->readers[p] = 1;
+        break;
+    case DW_CLOSE:
+        if (r)
+            sheet->readers[p] = 0;
+        break;
+    case DW_TESTLOCK:
+        if (r && w)
+            return answer(sheet->holder == p + 1 ? DW_YES : DW_NO, 0);
+        break;
+    case DW_COPY:
+        copy(s, m, p, f, x);
+        break;
+    }
+    return answer(DW_NOTHING, 0);
+}
+
+dw_answer peer_call(const dw_setup *setup, dw_store *store, uint32_t op, uint32_t p, uint32_t f, uint32_t x)
+{
+    uint32_t refusal = judge(setup, store);
+
+    return refusal != 0 ? answer(DW_REFUSED, refusal) : step(setup, store, op, p, f, x);
+}
+
+dw_answer peer_run(const dw_setup *setup, dw_store *store, const uint32_t *calls, size_t calls_len,
+                   uint32_t *answers, size_t answers_len)
+{
+    uint32_t refusal = judge(setup, store);
+    size_t count = calls_len / DW_CALL_WIDTH;
+
+    if (refusal != 0)
+        return answer(DW_REFUSED, refusal);
+    if (calls_len % DW_CALL_WIDTH != 0 || count > DW_CALLS)
+        return answer(DW_REFUSED, 10);
+    if (answers_len < count * DW_ANSWER_WIDTH)
+        return answer(DW_REFUSED, 11);
+    for (size_t i = 0; i < count; i++, calls += DW_CALL_WIDTH, answers += DW_ANSWER_WIDTH) {
+        dw_answer a = step(setup, store, calls[0], calls[1], calls[2], calls[3]);
+
+        answers[0] = a.kind;
+        answers[1] = a.value;
+    }
+    return answer(DW_NOTHING, (uint32_t)count);
+}

@@ -1,0 +1,14 @@
+/* The hand-written store that the library is measured against. */
+#ifndef PEER_H
+#define PEER_H
+
+#include "dirgewater.h"
+
+/* As dw_call_in_place. */
+dw_answer peer_call(const dw_setup *setup, dw_store *store, uint32_t op, uint32_t p, uint32_t f, uint32_t x);
+
+/* As dw_run, on one store in place. */
+dw_answer peer_run(const dw_setup *setup, dw_store *store, const uint32_t *calls, size_t calls_len,
+                   uint32_t *answers, size_t answers_len);
+
+#endif

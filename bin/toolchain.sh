@@ -1,0 +1,53 @@
+# Sourced from the root of the repository: how C is compiled, linked with the library for hosts, and run.
+# The kit does all of it, with its own C library, on x86-64 as on Arm, so that no other compiler is asked for. The
+# library is for x86-64; on another machine the kit's emulator runs what was linked.
+
+library=target/staticlib/libhost.a
+
+# Sets rt, and the kit's folders; it may stand on no PATH, as in a fresh runner.
+find_kit() {
+    local kit
+    rt=$(command -v rt) || rt=/opt/rattle/bin/rt
+    [ -x "$rt" ] || { echo "the Rattle kit is needed: no rt on PATH, and no $rt" >&2; return 1; }
+    kit=${RATTLE_HOME:-$(dirname -- "$(dirname -- "$(readlink -f -- "$rt")")")}
+    kit_id=$kit/KIT-ID own=$kit/on/$(uname -m)
+    tools=$own/toolchain
+    [ -x "$tools/bin/clang" ] || { echo "the kit at $kit has no compiler for $(uname -m)" >&2; return 1; }
+}
+
+# A folder is newer once a file in it was made or removed.
+is_stale() { [ ! -f "$library" ] || [ -n "$(find crates crates.txt "$kit_id" -newer "$library" -print -quit)" ]; }
+
+# Proves and builds the library where it is missing or older than what it is made of. What rt says is shown if it fails.
+need_library() {
+    local said
+    is_stale || return 0
+    said=$("$rt" staticlib host 2>&1) || { printf '%s\n' "$said" >&2; return 1; }
+}
+
+# Whether the library defines a function.
+in_library() { grep -aqw -- "$1" "$library"; } # NAME
+
+# Compiles one C file for x86-64. The machine's own headers are kept out, since they can be another processor's.
+compile_c() { # OBJECT SOURCE FLAGS..
+    mkdir -p "$(dirname -- "$1")"
+    "$tools/bin/clang" --target=x86_64-unknown-linux-gnu -std=c11 -Wall -Wextra -Werror -O3 -fPIE \
+        -nostdinc -isystem bin/libc "${@:3}" -c "$2" -o "$1"
+}
+
+# Links objects and the library. The linker speaks where all is well too, so it is shown only if it fails.
+link_c() { # PROGRAM OBJECT..
+    local said
+    said=$("$own/bin/rattle-link" --target x86_64-unknown-linux-gnu --toolchain "$tools" -o "$1" "${@:2}" "$library" 2>&1) ||
+        { printf '%s\n' "$said" >&2; return 1; }
+}
+
+# The kit has an emulator where the machine cannot run what was linked.
+is_emulated() { [ -x "$tools/bin/qemu-x86_64" ]; }
+
+# Runs a linked program under the kit's loader and C library.
+run_c() { # PROGRAM ARGUMENT..
+    local emulator=()
+    is_emulated && emulator=("$tools/bin/qemu-x86_64")
+    "${emulator[@]}" "$tools/lib/ld-linux-x86-64.so.2" --library-path "$tools/lib" "$@"
+}

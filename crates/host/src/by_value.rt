@@ -1,0 +1,87 @@
+// The entries over structs by value, for C: each is the proved entry of a crate below, under a name that C links.
+use crate::Numbered;
+use crate::Outcome;
+use crate::call_numbered;
+use judging::accepting::accept;
+use judging::fitting::fresh;
+use judging::fitting::judge;
+use lists::ListAnswer;
+use lists::running::run;
+use rules::GivenSetup;
+use rules::GivenStore;
+use rules::Setup;
+use rules::Store;
+ghost use mathlib.Core.Path.{_≡_};
+ghost use Rattle.rules.specs.Setups.{setupBytes};
+ghost use Rattle.rules.specs.Calls.{numbers};
+ghost use Rattle.rules.specs.Answers.{kindOf, valueOf};
+ghost use Rattle.rules.specs.Refusals.{judgeRefusal};
+ghost use Rattle.rules.specs.Entries.{acceptance, freshness, called};
+ghost use Rattle.lists.specs.Lists.{listed, roomAfter, listNumbersOf};
+
+// Entry: the setup that the counts and the slices give, or their refusal.
+#[no_mangle]
+pub extern "C" fn dw_accept(
+    desks: u32,
+    classes: u32,
+    processes: u32,
+    files: u32,
+    rights: &[u8],
+    desk: &[u8],
+    class: &[u8],
+) -> GivenSetup
+    ensures { λ r. ⌜ r ≡ acceptance (setupBytes desks classes processes files (now (rights .entry)) (now (desk .entry)) (now (class .entry))) ⌝ }
+{
+    accept(desks, classes, processes, files, rights, desk, class)
+}
+
+// Entry: a fresh store for the setup, or its refusal.
+#[no_mangle]
+pub extern "C" fn dw_fresh(setup: Setup) -> GivenStore
+    ensures { λ r. ⌜ r ≡ freshness setup ⌝ }
+{
+    fresh(setup)
+}
+
+// Entry: 0 where the setup could have been accepted and the store fits it, else 15 or 16.
+#[no_mangle]
+pub extern "C" fn dw_judge(setup: Setup, store: Store) -> u32
+    ensures { λ r. ⌜ r ≡ judgeRefusal setup store ⌝ }
+{
+    judge(setup, store)
+}
+
+// Entry: one call by value.
+#[no_mangle]
+pub extern "C" fn dw_call(setup: Setup, store: Store, op: u32, p: u32, f: u32, x: u32) -> Outcome
+    ensures { λ r. let c = called setup store (numbers op p f x) in
+        ⌜ (r .numbered .kind ≡ kindOf (c .answer)) × (r .numbered .value ≡ valueOf (c .answer)) × (r .store ≡ c .store) ⌝ }
+{
+    call_numbered(setup, store, op, p, f, x)
+}
+
+fn list_numbers_of(answer: ListAnswer) -> Numbered
+    ensures { λ r. ⌜ (r .kind ≡ listNumbersOf answer .0) × (r .value ≡ listNumbersOf answer .1) ⌝ }
+{
+    match answer {
+        ListAnswer::Ran(value) => Numbered { kind: 0, value },
+        ListAnswer::Stopped(value) => Numbered { kind: 4, value },
+    }
+}
+
+// Entry: a list of calls, four numbers each, answered two numbers each.
+#[no_mangle]
+pub extern "C" fn dw_run(setup: Setup, store: Store, calls: &[u32], answers: &mut [u32]) -> Outcome
+    ensures { λ r. let l = listed setup store (now (calls .entry)) (now (answers .entry)) in
+        ⌜ (r .numbered .kind ≡ listNumbersOf (l .answer) .0) × (r .numbered .value ≡ listNumbersOf (l .answer) .1) × (r .store ≡ l .store) ⌝ }
+    ensures room { λ _. ⌜ now (answers .exit) ≡ roomAfter setup store (now (calls .entry)) (now (answers .entry)) ⌝ }
+{
+    let outcome = run(setup, store, calls, answers);
+    let answer = outcome.answer;
+    let next = outcome.store;
+    let numbered = list_numbers_of(answer);
+    Outcome {
+        numbered,
+        store: next,
+    }
+}

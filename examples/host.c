@@ -1,0 +1,70 @@
+/* A host in C: accepts a setup, keeps one store in its memory, and lends it for nine calls. They carry a figure from desk 0
+ * over desk 1 to desk 2, which has no right on the file that desk 0 writes.
+ *
+ * bin/host-example builds and runs it. With a C compiler on x86-64 Linux, after `rt staticlib host`:
+ *     cc -Iinclude examples/host.c target/staticlib/libhost.a -o host && ./host
+ */
+#include <stdio.h>
+
+#include "dirgewater.h"
+
+/* Three desks, two classes, three processes, two files. Process n sits at desk n; file n has class n. */
+static const uint8_t rights[] = {
+    DW_W,    DW_NONE, /* desk 0 writes class 0 */
+    DW_R,    DW_W,    /* desk 1 reads class 0 and writes class 1 */
+    DW_NONE, DW_R,    /* desk 2 reads class 1 */
+};
+static const uint8_t desk_of[] = {0, 1, 2};
+static const uint8_t class_of[] = {0, 1};
+
+static const struct call {
+    const char *name;
+    uint32_t op, p, f, x;
+} calls[] = {
+    {"lock", DW_LOCK, 0, 0, 0},
+    {"write", DW_WRITE, 0, 0, 1},
+    {"unlock", DW_UNLOCK, 0, 0, 0},
+    {"open", DW_OPEN, 1, 0, 0},
+    {"lock", DW_LOCK, 1, 1, 0},
+    {"copy", DW_COPY, 1, 0, 1},
+    {"unlock", DW_UNLOCK, 1, 1, 0},
+    {"open", DW_OPEN, 2, 1, 0},
+    {"read", DW_READ, 2, 1, 0},
+};
+
+/* The one store of this host: too large to be copied about for each call. */
+static dw_store store;
+
+static void print_answer(const char *name, dw_answer answer)
+{
+    static const char *const kinds[] = {"nothing", "figure", "yes", "no", "refused"};
+
+    printf("%s\t%s", name, kinds[answer.kind]);
+    if (answer.kind == DW_FIGURE || answer.kind == DW_REFUSED)
+        printf("\t%u", answer.value);
+    printf("\n");
+}
+
+int main(void)
+{
+    dw_given_setup accepted = dw_accept(3, 2, 3, 2, rights, sizeof rights, desk_of, sizeof desk_of,
+                                        class_of, sizeof class_of);
+    if (accepted.refusal != 0) {
+        printf("setup refused\t%u\n", accepted.refusal);
+        return 1;
+    }
+    dw_given_store fresh = dw_fresh(accepted.setup);
+    if (fresh.refusal != 0) {
+        printf("store refused\t%u\n", fresh.refusal);
+        return 1;
+    }
+    store = fresh.store;
+    for (size_t i = 0; i < sizeof calls / sizeof calls[0]; i++) {
+        const struct call *c = &calls[i];
+        print_answer(c->name, dw_call_in_place(accepted.setup, &store, c->op, c->p, c->f, c->x));
+    }
+    /* No process 3 is in the setup: the call is refused, and the store stays as it was. */
+    print_answer("read", dw_call_in_place(accepted.setup, &store, DW_READ, 3, 1, 0));
+    printf("file 1 holds\t%u\n", store.files[1].figure);
+    return 0;
+}

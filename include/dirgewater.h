@@ -1,0 +1,203 @@
+/* Dirgewater for C: a proved store of sheets, as the static library libhost.a.
+ *
+ * A setup fixes desks, classes, processes, files, and what each desk may do with each class. A store
+ * holds, for each file, who has it locked, who has it open, and one figure. A host accepts a setup,
+ * makes a fresh store for it, keeps that store in its own memory, and lends it for each call.
+ *
+ * What is promised. Each function below is proved to give exactly what its comment says, refusals
+ * too, and to end, for every value of every number and of every struct. A setup or a store with any
+ * bytes in it may be handed in: it is judged first, and refused with 15 or 16 where it is unsound.
+ *
+ * What is asked in return, of pointers alone, since nothing can judge them:
+ *   - no pointer is null, not even beside a length of 0;
+ *   - it points at as many entries as its length says (a dw_store * at one store), aligned as its
+ *     type asks, and no other thread writes there during the call;
+ *   - nothing that a function writes behind a pointer overlaps anything else that it was lent, and
+ *     no other thread reads it during the call.
+ *
+ * No function keeps a pointer, allocates, prints, or has state of its own. So any number of threads
+ * may call at once, each on a store of its own. Structs by value lie on the stack: bench/run prints how
+ * much of it each form of a call takes.
+ *
+ * The archive is for x86-64 Linux. It asks for nothing but C's memcpy.
+ */
+#ifndef DIRGEWATER_H
+#define DIRGEWATER_H
+
+/* A compiler that brings no headers has these types built in. */
+#if defined(__has_include)
+#if !__has_include(<stdint.h>) || !__has_include(<stddef.h>)
+#define DW_NO_HEADERS
+#endif
+#endif
+#ifdef DW_NO_HEADERS
+typedef __UINT8_TYPE__ uint8_t;
+typedef __UINT32_TYPE__ uint32_t;
+typedef __SIZE_TYPE__ size_t;
+#undef DW_NO_HEADERS
+#else
+#include <stddef.h>
+#include <stdint.h>
+#endif
+
+#ifdef __cplusplus
+extern "C" {
+#endif
+
+/* ---- Sizes: the most of each thing. There is at least one of each, but a list of calls may be empty. */
+
+#define DW_DESKS 16
+#define DW_CLASSES 16
+#define DW_PROCESSES 64
+#define DW_FILES 32
+#define DW_CALLS 1024
+
+/* Rights of a setup: one for each desk and class, whatever the counts are. */
+#define DW_RIGHTS (DW_DESKS * DW_CLASSES)
+
+/* A call in a list is four numbers, its answer two. */
+#define DW_CALL_WIDTH 4
+#define DW_ANSWER_WIDTH 2
+
+/* ---- Rights, calls, answers. */
+
+/* A right is one of these. */
+#define DW_NONE 0
+#define DW_R 1
+#define DW_W 2
+#define DW_RW 3
+
+/* A call is an operation, a process p, a file f and an extra number x. R and W are those of p's desk
+ * on the file's class. A call goes through when what stands after its name holds; otherwise the store
+ * stays as it is, and the answer is DW_NOTHING. */
+#define DW_READ 1     /* R; p has f open; f is unlocked or locked by p: answers the figure */
+#define DW_WRITE 2    /* W; f is locked by p: the figure of f becomes x */
+#define DW_LOCK 3     /* W; f is unlocked: f is locked by p */
+#define DW_UNLOCK 4   /* W; f is locked by p: f is unlocked */
+#define DW_OPEN 5     /* R; f is unlocked: p has f open */
+#define DW_CLOSE 6    /* R; p has f open: p no longer has it open */
+#define DW_TESTLOCK 7 /* R and W: answers yes if f is locked by p, else no */
+#define DW_COPY 8     /* R on f; W on file x; p has f open; f is unlocked or locked by p; x is locked
+                         by p: the figure of x becomes that of f */
+
+/* The kind of an answer. The operations other than READ and TESTLOCK answer DW_NOTHING whether or not
+ * they went through. */
+#define DW_NOTHING 0 /* value 0 */
+#define DW_FIGURE 1  /* value: the figure */
+#define DW_YES 2     /* value 0 */
+#define DW_NO 3      /* value 0 */
+#define DW_REFUSED 4 /* value: the refusal's number */
+
+/* ---- Refusals. Each is given exactly where its words hold and none earlier in the function's order does.
+ *
+ *    1  a setup count lies outside its sizes
+ *    2  a right is above 3
+ *    3  a desk number in a setup is the number of desks or more
+ *    4  a class number in a setup is the number of classes or more
+ *    5  the operation is not 1 to 8
+ *    6  p is the number of processes or more
+ *    7  f is the number of files or more, or x is, for COPY
+ *    8  x is not 0, for the operations other than WRITE and COPY
+ *    9  COPY with x equal to f
+ *   10  the lengths of a setup's runs do not match its counts; or a list's length is not a multiple
+ *       of 4, or is above 4096
+ *   11  room for answers shorter than two numbers a call
+ *   15  a setup that could not have been accepted
+ *   16  a store that does not fit its setup
+ *
+ * No function of this header gives 12, 13 or 14. */
+
+/* ---- Structs. Fields lie in this order with nothing between them; every number is in the machine's order. */
+
+/* A setup, as dw_accept makes it. Every entry past the counts is 0. */
+typedef struct dw_setup {
+    uint32_t desks;
+    uint32_t classes;
+    uint32_t processes;
+    uint32_t files;
+    uint8_t rights[DW_RIGHTS];      /* of desk d on class t, at d * DW_CLASSES + t */
+    uint8_t desk_of[DW_PROCESSES];  /* the desk that each process sits at */
+    uint8_t class_of[DW_FILES];     /* the class of each file */
+} dw_setup;                         /* 368 bytes */
+
+/* What a store knows of one file. */
+typedef struct dw_sheet {
+    uint32_t holder;                /* 0 for unlocked, else the process that has it locked, plus one */
+    uint32_t figure;
+    uint8_t readers[DW_PROCESSES];  /* 1 where the process has the file open, else 0 */
+} dw_sheet;                         /* 72 bytes */
+
+/* A store fits its setup when each locked file is held by an existing process whose desk has W on the
+ * file's class, each process that has a file open exists and its desk has R on that class, open marks
+ * are 0 or 1, and the sheets past the files are all 0. Every call keeps a store fitting. */
+typedef struct dw_store {
+    dw_sheet files[DW_FILES];
+} dw_store;                         /* 2304 bytes */
+
+typedef struct dw_given_setup {
+    uint32_t refusal;               /* 0 where a setup is given */
+    dw_setup setup;                 /* else all of it is 0, which no function takes for a setup */
+} dw_given_setup;                   /* 372 bytes */
+
+typedef struct dw_given_store {
+    uint32_t refusal;               /* 0 where a store is given */
+    dw_store store;                 /* else its open marks are all 2, so that it fits no setup */
+} dw_given_store;                   /* 2308 bytes */
+
+typedef struct dw_answer {
+    uint32_t kind;                  /* DW_NOTHING to DW_REFUSED */
+    uint32_t value;
+} dw_answer;                        /* 8 bytes */
+
+/* One call's answer, and the next store. */
+typedef struct dw_called {
+    dw_answer answer;
+    dw_store store;
+} dw_called;                        /* 2312 bytes */
+
+/* What became of a list as a whole, and the store after it. */
+typedef struct dw_listed {
+    dw_answer answer;               /* kind 0 and the number of calls run; or DW_REFUSED and the number */
+    dw_store store;
+} dw_listed;                        /* 2312 bytes */
+
+/* ---- Functions. A length counts entries, not bytes. */
+
+/* The setup that four counts and three runs of bytes give. The runs have desks * classes rights, row
+ * by desk; the desk of each process; the class of each file. They are only read, and may overlap each
+ * other. Refusals, in this order: 1, 10, 2, 3, 4. */
+dw_given_setup dw_accept(uint32_t desks, uint32_t classes, uint32_t processes, uint32_t files,
+                         const uint8_t *rights, size_t rights_len,
+                         const uint8_t *desk_of, size_t desk_of_len,
+                         const uint8_t *class_of, size_t class_of_len);
+
+/* A fresh store: nothing locked, nothing open, all figures 0. Refusal: 15. */
+dw_given_store dw_fresh(dw_setup setup);
+
+/* 0 where the setup could have been accepted and the store fits it; else 15 or 16, in this order. */
+uint32_t dw_judge(dw_setup setup, dw_store store);
+
+/* One call on the store that lies behind the pointer: the answer is handed back, and the next store
+ * lies there. A refused call, and one that does not go through, leaves the store as it was.
+ * Refusals, in this order: 15, 16, 5, 6, 7, 8, 9. */
+dw_answer dw_call_in_place(dw_setup setup, dw_store *store, uint32_t op, uint32_t p, uint32_t f, uint32_t x);
+
+/* The same call on a store by value, with the next store handed back: the same answer, the same next
+ * store, the same refusals. It copies whole stores, where dw_call_in_place works on the one lent. */
+dw_called dw_call(dw_setup setup, dw_store store, uint32_t op, uint32_t p, uint32_t f, uint32_t x);
+
+/* A list of calls, run in order. calls has four numbers a call: op, p, f, x. Each call's answer, kind
+ * and then value, goes to the front of answers; what lies past the last answer keeps its values. A
+ * refused call leaves the store as it was, gets its answer, and the list goes on. The next store is
+ * handed back with the number of calls run.
+ * Refusals of the list as a whole, in this order: 15, 16, 10, 11. Then nothing is run, answers is
+ * untouched, and the store comes back as it was. A single call is refused, in its own answer, with 5
+ * to 9. calls is only read. answers must not overlap it. */
+dw_listed dw_run(dw_setup setup, dw_store store, const uint32_t *calls, size_t calls_len,
+                 uint32_t *answers, size_t answers_len);
+
+#ifdef __cplusplus
+}
+#endif
+
+#endif

@@ -1,0 +1,659 @@
+/* Whether C and the library lay out every struct alike, and whether the library keeps to what it was lent.
+ *
+ * C fills each field with values that can be told apart, and the library's answers must be those of the values C put there;
+ * then C reads each field of what the library hands back. Guard bytes lie around all that is lent. What a call should do is
+ * said here anew from the rules, as far as an answer is needed to see a field.
+ *
+ * Its last line is 'N passed, M failed'. */
+#include <stdio.h>
+#include <string.h>
+
+#include "dirgewater.h"
+
+_Static_assert(sizeof(dw_setup) == 368, "a setup has no gaps");
+_Static_assert(sizeof(dw_sheet) == 72, "a sheet has no gaps");
+_Static_assert(sizeof(dw_store) == 2304, "a store has no gaps");
+_Static_assert(sizeof(dw_given_setup) == 372 && sizeof(dw_given_store) == 2308, "a number, and what is given");
+_Static_assert(sizeof(dw_called) == 2312 && sizeof(dw_listed) == 2312, "an answer, and a store");
+
+/* ---- Counting. One group of checks passes or fails as a whole; its first failures are printed. */
+
+static int faults;
+
+#define CHECK(fact)                                                          \
+    do {                                                                     \
+        if (!(fact) && faults++ < 3)                                         \
+            printf("layout: line %d does not hold: %s\n", __LINE__, #fact);  \
+    } while (0)
+
+/* ---- Values. */
+
+static uint32_t state = 1;
+
+/* Numbers below a bound in no order, the same in each run. */
+static uint32_t below(uint32_t bound)
+{
+    state ^= state << 13;
+    state ^= state >> 17;
+    state ^= state << 5;
+    return (state >> 8) % bound;
+}
+
+/* Counts that differ from each other and from the most. */
+enum { D = 13, T = 11, P = 61, F = 29 };
+
+/* No two desks have the same rights, and no two classes give the same. */
+static uint8_t right_at(uint32_t d, uint32_t t)
+{
+    return (uint8_t)((d + 3 * t + 3 * d * t) / 4 % 4);
+}
+
+static dw_setup part_setup(void)
+{
+    dw_setup s;
+
+    memset(&s, 0, sizeof s);
+    s.desks = D;
+    s.classes = T;
+    s.processes = P;
+    s.files = F;
+    for (uint32_t d = 0; d < D; d++)
+        for (uint32_t t = 0; t < T; t++)
+            s.rights[d * DW_CLASSES + t] = right_at(d, t);
+    for (uint32_t p = 0; p < P; p++)
+        s.desk_of[p] = (uint8_t)((p * 5 + p / 13) % D);
+    for (uint32_t f = 0; f < F; f++)
+        s.class_of[f] = (uint8_t)((f * 3 + f / 11) % T);
+    return s;
+}
+
+/* As many of each as can be, and every right given. */
+static dw_setup whole_setup(void)
+{
+    dw_setup s;
+
+    memset(&s, 0, sizeof s);
+    s.desks = DW_DESKS;
+    s.classes = DW_CLASSES;
+    s.processes = DW_PROCESSES;
+    s.files = DW_FILES;
+    memset(s.rights, DW_RW, sizeof s.rights);
+    return s;
+}
+
+static dw_store blank_store(void)
+{
+    dw_store m;
+
+    memset(&m, 0, sizeof m);
+    return m;
+}
+
+/* Each figure another, and open marks in no order. */
+static dw_store opened_store(void)
+{
+    dw_store m;
+
+    for (uint32_t f = 0; f < DW_FILES; f++) {
+        m.files[f].holder = 0;
+        m.files[f].figure = 0x01020304u * (f + 1) + 0x80u;
+        for (uint32_t p = 0; p < DW_PROCESSES; p++)
+            m.files[f].readers[p] = (uint8_t)below(2);
+    }
+    return m;
+}
+
+/* The same, and each file locked by another process, which has it open. */
+static dw_store locked_store(void)
+{
+    dw_store m = opened_store();
+
+    for (uint32_t f = 0; f < DW_FILES; f++) {
+        uint32_t p = (f * 37 + 11) % DW_PROCESSES;
+
+        m.files[f].holder = p + 1;
+        m.files[f].readers[p] = 1;
+    }
+    return m;
+}
+
+static uint8_t right_of(const dw_setup *s, uint32_t p, uint32_t f)
+{
+    return s->rights[s->desk_of[p] * DW_CLASSES + s->class_of[f]];
+}
+
+static int is_answer(dw_answer a, uint32_t kind, uint32_t value)
+{
+    return a.kind == kind && a.value == value;
+}
+
+static int same_store(const dw_store *one, const dw_store *other)
+{
+    return memcmp(one, other, sizeof *one) == 0;
+}
+
+/* ---- Guards: bytes around a lent place, which must be there afterwards as before. */
+
+enum { GUARD = 64 };
+
+static void set_guard(uint8_t *guard)
+{
+    for (int i = 0; i < GUARD; i++)
+        guard[i] = (uint8_t)(0xA5 ^ i);
+}
+
+static int has_guard(const uint8_t *guard)
+{
+    for (int i = 0; i < GUARD; i++)
+        if (guard[i] != (uint8_t)(0xA5 ^ i))
+            return 0;
+    return 1;
+}
+
+struct guarded_store {
+    uint8_t before[GUARD];
+    dw_store store;
+    uint8_t after[GUARD];
+};
+
+/* A run of bytes of any length: the second guard follows its last byte. */
+struct guarded_bytes {
+    uint8_t before[GUARD];
+    uint8_t bytes[DW_RIGHTS + GUARD];
+};
+
+/* Numbers lent for a list. The guards lie at their ends too. */
+struct guarded_numbers {
+    uint8_t before[GUARD];
+    uint32_t numbers[(DW_CALLS + 1) * DW_CALL_WIDTH];
+    uint8_t after[GUARD];
+};
+
+/* ---- What the library reads of a setup. */
+
+static uint32_t fresh_refusal(const dw_setup *s)
+{
+    return dw_fresh(*s).refusal;
+}
+
+/* A count just outside its sizes is refused. */
+static void count_is_read(dw_setup *s, uint32_t *count, uint32_t most)
+{
+    uint32_t was = *count;
+
+    *count = 0;
+    CHECK(fresh_refusal(s) == 15);
+    *count = most + 1;
+    CHECK(fresh_refusal(s) == 15);
+    *count = was;
+    CHECK(fresh_refusal(s) == 0);
+}
+
+static void reads_counts(void)
+{
+    dw_setup s = part_setup();
+
+    count_is_read(&s, &s.desks, DW_DESKS);
+    count_is_read(&s, &s.classes, DW_CLASSES);
+    count_is_read(&s, &s.processes, DW_PROCESSES);
+    count_is_read(&s, &s.files, DW_FILES);
+}
+
+/* An entry takes its greatest value, and no greater one. */
+static void entry_is_read(dw_setup *s, uint8_t *entry, uint32_t most)
+{
+    uint8_t was = *entry;
+
+    *entry = (uint8_t)most;
+    CHECK(fresh_refusal(s) == 0);
+    *entry = (uint8_t)(most + 1);
+    CHECK(fresh_refusal(s) == 15);
+    *entry = 255;
+    CHECK(fresh_refusal(s) == 15);
+    *entry = was;
+}
+
+/* The greatest value of an entry is 0 past the counts, so each count is seen to bound its own table. */
+static void reads_entries(void)
+{
+    dw_setup s = part_setup();
+
+    for (uint32_t d = 0; d < DW_DESKS; d++)
+        for (uint32_t t = 0; t < DW_CLASSES; t++)
+            entry_is_read(&s, &s.rights[d * DW_CLASSES + t], d < D && t < T ? DW_RW : 0);
+    for (uint32_t p = 0; p < DW_PROCESSES; p++)
+        entry_is_read(&s, &s.desk_of[p], p < P ? D - 1 : 0);
+    for (uint32_t f = 0; f < DW_FILES; f++)
+        entry_is_read(&s, &s.class_of[f], f < F ? T - 1 : 0);
+}
+
+/* OPEN shows R and LOCK shows W, for each process and file, so for each right of each desk on each class. */
+static void reads_rights(void)
+{
+    dw_setup s = part_setup();
+    dw_store m = blank_store();
+
+    for (uint32_t p = 0; p < P; p++)
+        for (uint32_t f = 0; f < F; f++) {
+            uint8_t right = right_of(&s, p, f);
+            dw_called opened = dw_call(s, m, DW_OPEN, p, f, 0);
+            dw_called locked = dw_call(s, m, DW_LOCK, p, f, 0);
+
+            CHECK(opened.store.files[f].readers[p] == (right & DW_R ? 1 : 0));
+            CHECK(locked.store.files[f].holder == (right & DW_W ? p + 1 : 0));
+        }
+}
+
+/* ---- What the library reads of a store. */
+
+/* READ answers the file's own figure to each process that has it open, and to no other. */
+static void reads_figures_and_marks(void)
+{
+    dw_setup s = whole_setup();
+    dw_store m = opened_store();
+
+    for (uint32_t f = 0; f < DW_FILES; f++)
+        for (uint32_t p = 0; p < DW_PROCESSES; p++) {
+            dw_answer a = dw_call(s, m, DW_READ, p, f, 0).answer;
+
+            if (m.files[f].readers[p])
+                CHECK(is_answer(a, DW_FIGURE, m.files[f].figure));
+            else
+                CHECK(is_answer(a, DW_NOTHING, 0));
+        }
+}
+
+static void reads_holders(void)
+{
+    dw_setup s = whole_setup();
+    dw_store m = locked_store();
+
+    for (uint32_t f = 0; f < DW_FILES; f++)
+        for (uint32_t p = 0; p < DW_PROCESSES; p++) {
+            dw_answer a = dw_call(s, m, DW_TESTLOCK, p, f, 0).answer;
+
+            CHECK(is_answer(a, m.files[f].holder == p + 1 ? DW_YES : DW_NO, 0));
+        }
+}
+
+/* Whether a store with one number changed still fits. */
+static uint32_t judged_with(const dw_setup *s, dw_store *m, uint32_t *number, uint32_t value)
+{
+    uint32_t was = *number, refusal;
+
+    *number = value;
+    refusal = dw_judge(*s, *m);
+    *number = was;
+    return refusal;
+}
+
+static void judges_marks(const dw_setup *s, dw_store *m, uint32_t f)
+{
+    for (uint32_t p = 0; p < DW_PROCESSES; p++) {
+        uint8_t *mark = &m->files[f].readers[p];
+
+        *mark = 1;
+        CHECK(dw_judge(*s, *m) == (f < F && p < P && right_of(s, p, f) & DW_R ? 0 : 16));
+        *mark = 2;
+        CHECK(dw_judge(*s, *m) == 16);
+        *mark = 0;
+    }
+}
+
+/* Each number of each sheet, before and past the files, by whether the store still fits. */
+static void judges_every_field(void)
+{
+    dw_setup s = part_setup();
+    dw_store m = blank_store();
+
+    CHECK(dw_judge(s, m) == 0);
+    for (uint32_t f = 0; f < DW_FILES; f++) {
+        dw_sheet *sheet = &m.files[f];
+        uint32_t p = f * 2;
+
+        CHECK(judged_with(&s, &m, &sheet->figure, 0xFFFFFFFFu) == (f < F ? 0 : 16));
+        CHECK(judged_with(&s, &m, &sheet->holder, P + 1) == 16);
+        CHECK(judged_with(&s, &m, &sheet->holder, p + 1) == (f < F && right_of(&s, p, f) & DW_W ? 0 : 16));
+        judges_marks(&s, &m, f);
+    }
+}
+
+/* ---- What the library hands back. */
+
+static dw_given_setup accept_from(const struct guarded_bytes *rights, const struct guarded_bytes *desks,
+                                  const struct guarded_bytes *classes)
+{
+    return dw_accept(D, T, P, F, rights->bytes, D * T, desks->bytes, P, classes->bytes, F);
+}
+
+/* Lays a setup's three tables out as they are handed in, each with a guard right past its end. */
+static void lay_out(const dw_setup *s, struct guarded_bytes *rights, struct guarded_bytes *desks,
+                    struct guarded_bytes *classes)
+{
+    set_guard(rights->before);
+    set_guard(desks->before);
+    set_guard(classes->before);
+    for (uint32_t d = 0; d < D; d++)
+        memcpy(rights->bytes + d * T, s->rights + d * DW_CLASSES, T);
+    memcpy(desks->bytes, s->desk_of, P);
+    memcpy(classes->bytes, s->class_of, F);
+    set_guard(rights->bytes + D * T);
+    set_guard(desks->bytes + P);
+    set_guard(classes->bytes + F);
+}
+
+static void gives_setups(void)
+{
+    static struct guarded_bytes rights, desks, classes;
+    static const dw_setup blank;
+    dw_setup s = part_setup();
+    dw_given_setup given;
+
+    lay_out(&s, &rights, &desks, &classes);
+    given = accept_from(&rights, &desks, &classes);
+    CHECK(given.refusal == 0);
+    CHECK(given.setup.desks == D && given.setup.classes == T);
+    CHECK(given.setup.processes == P && given.setup.files == F);
+    CHECK(memcmp(given.setup.rights, s.rights, sizeof s.rights) == 0);
+    CHECK(memcmp(given.setup.desk_of, s.desk_of, sizeof s.desk_of) == 0);
+    CHECK(memcmp(given.setup.class_of, s.class_of, sizeof s.class_of) == 0);
+
+    rights.bytes[D * T - 1] = 4;
+    given = accept_from(&rights, &desks, &classes);
+    CHECK(given.refusal == 2 && memcmp(&given.setup, &blank, sizeof blank) == 0);
+    rights.bytes[D * T - 1] = 0;
+    desks.bytes[P - 1] = D;
+    CHECK(accept_from(&rights, &desks, &classes).refusal == 3);
+    desks.bytes[P - 1] = 0;
+    classes.bytes[F - 1] = T;
+    CHECK(accept_from(&rights, &desks, &classes).refusal == 4);
+
+    CHECK(has_guard(rights.before) && has_guard(rights.bytes + D * T));
+    CHECK(has_guard(desks.before) && has_guard(desks.bytes + P));
+    CHECK(has_guard(classes.before) && has_guard(classes.bytes + F));
+}
+
+/* Each length one off, alone, is refused: pointer and length of each run stand in their own places. */
+static void matches_lengths(void)
+{
+    static const uint8_t none[DW_RIGHTS];
+
+    CHECK(dw_accept(D, T, P, F, none, D * T, none, P, none, F).refusal == 0);
+    CHECK(dw_accept(D, T, P, F, none, D * T + 1, none, P, none, F).refusal == 10);
+    CHECK(dw_accept(D, T, P, F, none, D * T, none, P - 1, none, F).refusal == 10);
+    CHECK(dw_accept(D, T, P, F, none, D * T, none, P, none, F + 1).refusal == 10);
+    CHECK(dw_accept(DW_DESKS + 1, T, P, F, none, D * T, none, P, none, F).refusal == 1);
+}
+
+static void gives_stores(void)
+{
+    dw_setup s = part_setup();
+    dw_store blank = blank_store();
+    dw_given_store given = dw_fresh(s);
+
+    CHECK(given.refusal == 0 && same_store(&given.store, &blank));
+    s.desks = 0;
+    given = dw_fresh(s);
+    CHECK(given.refusal == 15);
+    for (uint32_t f = 0; f < DW_FILES; f++) {
+        CHECK(given.store.files[f].holder == 0 && given.store.files[f].figure == 0);
+        for (uint32_t p = 0; p < DW_PROCESSES; p++)
+            CHECK(given.store.files[f].readers[p] == 2);
+    }
+}
+
+/* ---- Calls: what each changes, and that it changes nothing else. */
+
+struct numbers {
+    uint32_t op, p, f, x;
+};
+
+static struct numbers call_of(uint32_t op, uint32_t p, uint32_t f, uint32_t x)
+{
+    struct numbers n;
+
+    n.op = op;
+    n.p = p;
+    n.f = f;
+    n.x = x;
+    return n;
+}
+
+/* Both forms of a call, on the same store: each must answer so, and leave just that store. */
+static void call_gives(dw_setup s, dw_store m, struct numbers n, uint32_t kind, uint32_t value, const dw_store *next)
+{
+    static struct guarded_store lent;
+    dw_called called = dw_call(s, m, n.op, n.p, n.f, n.x);
+    dw_answer answer;
+
+    CHECK(is_answer(called.answer, kind, value));
+    CHECK(same_store(&called.store, next));
+
+    set_guard(lent.before);
+    set_guard(lent.after);
+    lent.store = m;
+    answer = dw_call_in_place(s, &lent.store, n.op, n.p, n.f, n.x);
+    CHECK(is_answer(answer, kind, value));
+    CHECK(same_store(&lent.store, next));
+    CHECK(has_guard(lent.before) && has_guard(lent.after));
+}
+
+/* The calls of the process that has file f locked, on a store all of whose numbers differ. */
+static void holder_calls(const dw_setup *s, const dw_store *m, uint32_t f)
+{
+    uint32_t p = m->files[f].holder - 1;
+    dw_store next = *m;
+
+    next.files[f].figure = 0xFEDCBA98u;
+    call_gives(*s, *m, call_of(DW_WRITE, p, f, 0xFEDCBA98u), DW_NOTHING, 0, &next);
+    next = *m;
+    next.files[f].holder = 0;
+    call_gives(*s, *m, call_of(DW_UNLOCK, p, f, 0), DW_NOTHING, 0, &next);
+    next = *m;
+    next.files[f].readers[p] = 0;
+    call_gives(*s, *m, call_of(DW_CLOSE, p, f, 0), DW_NOTHING, 0, &next);
+    call_gives(*s, *m, call_of(DW_READ, p, f, 0), DW_FIGURE, m->files[f].figure, m);
+    call_gives(*s, *m, call_of(DW_TESTLOCK, p, f, 0), DW_YES, 0, m);
+    call_gives(*s, *m, call_of(DW_TESTLOCK, (p + 1) % DW_PROCESSES, f, 0), DW_NO, 0, m);
+}
+
+/* The calls of a process on file f while it is unlocked; file x is locked by that process, for COPY. */
+static void other_calls(const dw_setup *s, const dw_store *m, uint32_t f)
+{
+    uint32_t x = (f + 1) % DW_FILES, p = m->files[x].holder - 1;
+    dw_store now = *m, next;
+
+    now.files[f].holder = 0;
+    now.files[f].readers[p] = 0;
+    next = now;
+    next.files[f].readers[p] = 1;
+    call_gives(*s, now, call_of(DW_OPEN, p, f, 0), DW_NOTHING, 0, &next);
+    call_gives(*s, now, call_of(DW_READ, p, f, 0), DW_NOTHING, 0, &now);
+    now = next;
+    call_gives(*s, now, call_of(DW_READ, p, f, 0), DW_FIGURE, now.files[f].figure, &now);
+    next.files[f].holder = p + 1;
+    call_gives(*s, now, call_of(DW_LOCK, p, f, 0), DW_NOTHING, 0, &next);
+    next = now;
+    next.files[x].figure = now.files[f].figure;
+    call_gives(*s, now, call_of(DW_COPY, p, f, x), DW_NOTHING, 0, &next);
+}
+
+static void calls_change_one_field(void)
+{
+    dw_setup s = whole_setup();
+    dw_store m = locked_store();
+
+    for (uint32_t f = 0; f < DW_FILES; f++) {
+        holder_calls(&s, &m, f);
+        other_calls(&s, &m, f);
+    }
+}
+
+static void refused_calls_change_nothing(void)
+{
+    dw_setup s = part_setup();
+    dw_store m = blank_store();
+
+    for (uint32_t f = 0; f < F; f++)
+        m.files[f].figure = 0x01010101u * (f + 1);
+    call_gives(s, m, call_of(0, P, F, 1), DW_REFUSED, 5, &m);
+    call_gives(s, m, call_of(DW_READ, P, F, 1), DW_REFUSED, 6, &m);
+    call_gives(s, m, call_of(DW_READ, P - 1, F, 1), DW_REFUSED, 7, &m);
+    call_gives(s, m, call_of(DW_COPY, P - 1, F - 1, F), DW_REFUSED, 7, &m);
+    call_gives(s, m, call_of(DW_READ, P - 1, F - 1, 1), DW_REFUSED, 8, &m);
+    call_gives(s, m, call_of(DW_COPY, P - 1, F - 1, F - 1), DW_REFUSED, 9, &m);
+    m.files[F].figure = 1;
+    call_gives(s, m, call_of(0, P, F, 1), DW_REFUSED, 16, &m);
+    s.processes = 0;
+    call_gives(s, m, call_of(0, P, F, 1), DW_REFUSED, 15, &m);
+}
+
+/* ---- Lists. */
+
+static struct guarded_numbers list, room;
+
+enum { CALLS_LEN = sizeof list.numbers / sizeof list.numbers[0] };
+
+/* Any calls: most have numbers that exist, and some have not. */
+static void make_list(void)
+{
+    for (uint32_t i = 0; i < CALLS_LEN; i += DW_CALL_WIDTH) {
+        uint32_t op = below(9), f = below(DW_FILES);
+
+        list.numbers[i] = op;
+        list.numbers[i + 1] = below(DW_PROCESSES + 1);
+        list.numbers[i + 2] = f;
+        list.numbers[i + 3] = op == DW_WRITE ? below(1000) : op == DW_COPY ? below(DW_FILES) : 0;
+    }
+}
+
+/* Every number of the room is one that no answer has. */
+static void make_room(void)
+{
+    set_guard(list.before);
+    set_guard(list.after);
+    set_guard(room.before);
+    set_guard(room.after);
+    for (uint32_t i = 0; i < CALLS_LEN; i++)
+        room.numbers[i] = 0xC0DE0000u + i;
+}
+
+static void guards_stand(void)
+{
+    CHECK(has_guard(list.before) && has_guard(list.after));
+    CHECK(has_guard(room.before) && has_guard(room.after));
+}
+
+/* The end of each lent run is put at the end of its place, so that the guard lies right past it. */
+static uint32_t *last_numbers(struct guarded_numbers *g, size_t len)
+{
+    return g->numbers + CALLS_LEN - len;
+}
+
+static void room_is_untouched(uint32_t from, uint32_t to)
+{
+    for (uint32_t i = from; i < to; i++)
+        CHECK(room.numbers[i] == 0xC0DE0000u + i);
+}
+
+/* A list does what its calls do one by one; spare is the room past its answers. */
+static void list_is_its_calls(dw_setup s, dw_store m, uint32_t count, uint32_t spare)
+{
+    uint32_t len = count * DW_CALL_WIDTH, written = count * DW_ANSWER_WIDTH;
+    const uint32_t *calls = last_numbers(&list, len);
+    uint32_t *answers = last_numbers(&room, written + spare);
+    dw_listed listed;
+
+    make_room();
+    listed = dw_run(s, m, calls, len, answers, written + spare);
+    CHECK(is_answer(listed.answer, 0, count));
+    for (uint32_t i = 0; i < count; i++) {
+        const uint32_t *n = calls + i * DW_CALL_WIDTH;
+        dw_called called = dw_call(s, m, n[0], n[1], n[2], n[3]);
+
+        CHECK(is_answer(called.answer, answers[2 * i], answers[2 * i + 1]));
+        m = called.store;
+    }
+    CHECK(same_store(&listed.store, &m));
+    room_is_untouched(0, (uint32_t)(answers - room.numbers));
+    room_is_untouched(CALLS_LEN - spare, CALLS_LEN);
+    guards_stand();
+}
+
+static void list_is_refused(dw_setup s, dw_store m, size_t calls_len, size_t answers_len, uint32_t refusal)
+{
+    dw_listed listed;
+
+    make_room();
+    listed = dw_run(s, m, last_numbers(&list, calls_len), calls_len, last_numbers(&room, answers_len), answers_len);
+    CHECK(is_answer(listed.answer, DW_REFUSED, refusal));
+    CHECK(same_store(&listed.store, &m));
+    room_is_untouched(0, CALLS_LEN);
+    guards_stand();
+}
+
+static void lists_keep_to_their_room(void)
+{
+    dw_setup s = whole_setup();
+    dw_store m = opened_store();
+
+    make_list();
+    list_is_its_calls(s, m, 0, 0);
+    list_is_its_calls(s, m, 1, 0);
+    list_is_its_calls(s, m, 7, 1);
+    list_is_its_calls(s, m, 100, 33);
+    list_is_its_calls(s, m, DW_CALLS, 0);
+}
+
+static void refused_lists_write_nothing(void)
+{
+    dw_setup s = whole_setup();
+    dw_store m = opened_store();
+
+    make_list();
+    list_is_refused(s, m, 9, 64, 10);
+    list_is_refused(s, m, (DW_CALLS + 1) * DW_CALL_WIDTH, CALLS_LEN, 10);
+    list_is_refused(s, m, 8, 3, 11);
+    m.files[3].readers[5] = 2;
+    list_is_refused(s, m, 9, 0, 16);
+    s.files = 0;
+    list_is_refused(s, m, 9, 0, 15);
+}
+
+/* ---- */
+
+static const struct group {
+    const char *name;
+    void (*run)(void);
+} groups[] = {
+    {"a setup's counts are read", reads_counts},
+    {"a setup's entries are read", reads_entries},
+    {"a setup's rights are read where they lie", reads_rights},
+    {"a store's figures and open marks are read", reads_figures_and_marks},
+    {"a store's holders are read", reads_holders},
+    {"every field of a store is judged", judges_every_field},
+    {"an accepted setup comes back in every field", gives_setups},
+    {"a setup's lengths are matched", matches_lengths},
+    {"a fresh store comes back in every field", gives_stores},
+    {"a call changes its one field", calls_change_one_field},
+    {"a refused call changes nothing", refused_calls_change_nothing},
+    {"a list keeps to its room", lists_keep_to_their_room},
+    {"a refused list writes nothing", refused_lists_write_nothing},
+};
+
+int main(void)
+{
+    int passed = 0, failed = 0;
+
+    for (size_t i = 0; i < sizeof groups / sizeof groups[0]; i++) {
+        faults = 0;
+        groups[i].run();
+        if (faults == 0)
+            passed++;
+        else
+            failed++;
+        printf("layout: %s: %s\n", groups[i].name, faults == 0 ? "ok" : "FAILED");
+    }
+    printf("%d passed, %d failed\n", passed, failed);
+    return failed != 0;
+}
