@@ -2,8 +2,9 @@
 use crate::decoding::decode;
 use crate::stepping::step;
 use judging::fitting::judge;
-use judging::rights::may_read;
-use judging::rights::may_write;
+use judging::rights::has_r;
+use judging::rights::has_w;
+use judging::rights::right_of;
 use rules::Answer;
 use rules::Call;
 use rules::Called;
@@ -14,10 +15,11 @@ use rules::Sheet;
 use rules::Store;
 ghost use mathlib.Core.Path.{_≡_};
 ghost use Prim.Native.Nat.{_<_};
-ghost use Rattle.rules.specs.Sizes.{mostFiles};
-ghost use Rattle.rules.specs.Stores.{sheetOf, withSheet};
-ghost use Rattle.rules.specs.Calls.{numbers, processOf, fileOf, changeable, looksAt};
+ghost use Rattle.rules.specs.Sizes.{mostProcesses};
+ghost use Rattle.rules.specs.Stores.{hasOpen};
+ghost use Rattle.rules.specs.Calls.{numbers, processOf, fileOf, changeable};
 ghost use Rattle.rules.specs.Answers.{numbersOf};
+ghost use Rattle.calling.specs.Looking.{looksOn};
 ghost use Rattle.rules.specs.Entries.{called};
 
 pub fn process_of(call: Call) -> u32
@@ -66,39 +68,40 @@ pub fn changeable(call: Call) -> u32
     }
 }
 
-fn sheet_of(store: Store, f: u32) -> Sheet
-    requires { ⌜ f < mostFiles ⌝ }
-    ensures { λ r. ⌜ r ≡ sheetOf store f ⌝ }
+pub fn has_open(sheet: Sheet, p: u32) -> bool
+    requires { ⌜ p < mostProcesses ⌝ }
+    ensures { λ r. ⌜ r ≡ hasOpen sheet p ⌝ }
 {
-    let i = f as usize;
-    store.files[i]
+    let i = p as usize;
+    sheet.readers[i] == 1
 }
 
-fn with_sheet(store: Store, f: u32, sheet: Sheet) -> Store
-    requires { ⌜ f < mostFiles ⌝ }
-    ensures { λ r. ⌜ r ≡ withSheet store f sheet ⌝ }
-{
-    let i = f as usize;
-    let mut next = store;
-    next.files[i] = sheet;
-    next
-}
-
-fn look_at(setup: Setup, store: Store, call: Call) -> Looks
-    requires { ⌜ (fileOf call < mostFiles) × (changeable call < mostFiles) ⌝ }
-    ensures { λ r. ⌜ r ≡ looksAt setup store call ⌝ }
+// What a call looks at; the tables are lent, so that none is copied for a call.
+pub fn look_on(
+    rights: &[u8],
+    desk: &[u8],
+    class: &[u8],
+    call: Call,
+    source: Sheet,
+    target: Sheet,
+) -> Looks
+    requires { ⌜ processOf call < mostProcesses ⌝ }
+    ensures { λ r. ⌜ r ≡ looksOn (now (rights .entry)) (now (desk .entry)) (now (class .entry)) call source target ⌝ }
 {
     let p = process_of(call);
-    let f = file_of(call);
-    let x = changeable(call);
-    let r = may_read(setup, p as usize, f as usize);
-    let w = may_write(setup, p as usize, x as usize);
-    let source = sheet_of(store, f);
-    let target = sheet_of(store, x);
+    let f = file_of(call) as usize;
+    let x = changeable(call) as usize;
+    let r = has_r(right_of(rights, desk, class, p as usize, f));
+    let w = has_w(right_of(rights, desk, class, p as usize, x));
+    let opened = has_open(source, p);
+    let holder = source.holder;
+    let content = source.content;
     Looks {
         r,
         w,
-        source,
+        opened,
+        holder,
+        content,
         target,
     }
 }
@@ -113,6 +116,9 @@ pub fn call(setup: Setup, store: Store, op: u32, p: u32, f: u32, x: u32) -> Call
         let answer = Answer::Refused(refusal);
         return Called { answer, store };
     }
+    let rights = setup.rights;
+    let desk = setup.desk;
+    let class = setup.class;
     let decoded = decode(setup, op, p, f, x);
     match decoded {
         Decoded::Not(number) => {
@@ -120,11 +126,16 @@ pub fn call(setup: Setup, store: Store, op: u32, p: u32, f: u32, x: u32) -> Call
             Called { answer, store }
         }
         Decoded::Is(call) => {
-            let look = look_at(setup, store, call);
+            let f = file_of(call) as usize;
+            let x = changeable(call) as usize;
+            let mut next = store;
+            let source = next.files[f];
+            let target = next.files[x];
+            let look = look_on(&rights, &desk, &class, call, source, target);
             let turn = step(call, look);
             let answer = turn.answer;
             let sheet = turn.sheet;
-            let next = with_sheet(store, turn.file, sheet);
+            next.files[x] = sheet;
             Called {
                 answer,
                 store: next,

@@ -8,37 +8,29 @@ use rules::Turn;
 ghost use mathlib.Core.Path.{_≡_};
 ghost use Prim.Native.Nat.{_<_};
 ghost use Rattle.rules.specs.Sizes.{mostProcesses};
-ghost use Rattle.rules.specs.Stores.{unlocked, lockedBy, hasOpen};
+ghost use Rattle.rules.specs.Stores.{isFree, isHeldBy};
 ghost use Rattle.rules.specs.Calls.{processOf, readOf, writtenTo, copiedTo, yesOrNo, freeFor, withHolder, withContent, withMark, turnOf, quiet};
 
-// What is asked of a sheet.
+// What is asked of a file's holder.
 
-fn unlocked(sheet: Sheet) -> bool
-    ensures { λ r. ⌜ r ≡ unlocked sheet ⌝ }
+fn is_free(holder: u32) -> bool
+    ensures { λ r. ⌜ r ≡ isFree holder ⌝ }
 {
-    sheet.holder == 0
+    holder == 0
 }
 
-fn locked_by(sheet: Sheet, p: u32) -> bool
+fn is_held_by(holder: u32, p: u32) -> bool
     requires { ⌜ p < mostProcesses ⌝ }
-    ensures { λ r. ⌜ r ≡ lockedBy sheet p ⌝ }
+    ensures { λ r. ⌜ r ≡ isHeldBy holder p ⌝ }
 {
-    sheet.holder == p + 1
+    holder == p + 1
 }
 
-fn free_for(sheet: Sheet, p: u32) -> bool
+fn free_for(holder: u32, p: u32) -> bool
     requires { ⌜ p < mostProcesses ⌝ }
-    ensures { λ r. ⌜ r ≡ freeFor sheet p ⌝ }
+    ensures { λ r. ⌜ r ≡ freeFor holder p ⌝ }
 {
-    unlocked(sheet) | locked_by(sheet, p)
-}
-
-fn has_open(sheet: Sheet, p: u32) -> bool
-    requires { ⌜ p < mostProcesses ⌝ }
-    ensures { λ r. ⌜ r ≡ hasOpen sheet p ⌝ }
-{
-    let i = p as usize;
-    sheet.readers[i] == 1
+    is_free(holder) | is_held_by(holder, p)
 }
 
 // A sheet with one thing changed.
@@ -114,10 +106,9 @@ fn read(look: Looks, p: u32, f: u32) -> Turn
     requires { ⌜ p < mostProcesses ⌝ }
     ensures { λ r. ⌜ r ≡ turnOf (Call.Read p f) look ⌝ }
 {
-    let source = look.source;
     let target = look.target;
-    if look.r & has_open(source, p) & free_for(source, p) {
-        let answer = read_of(source.content);
+    if look.r & look.opened & free_for(look.holder, p) {
+        let answer = read_of(look.content);
         Turn {
             answer,
             file: f,
@@ -133,7 +124,7 @@ fn write(look: Looks, p: u32, f: u32, x: u32) -> Turn
     ensures { λ r. ⌜ r ≡ turnOf (Call.Write p f x) look ⌝ }
 {
     let target = look.target;
-    if look.w & locked_by(target, p) {
+    if look.w & is_held_by(target.holder, p) {
         quiet(f, with_content(target, written_to(target.content, x)))
     } else {
         quiet(f, target)
@@ -145,7 +136,7 @@ fn lock(look: Looks, p: u32, f: u32) -> Turn
     ensures { λ r. ⌜ r ≡ turnOf (Call.Lock p f) look ⌝ }
 {
     let target = look.target;
-    if look.w & unlocked(target) {
+    if look.w & is_free(target.holder) {
         quiet(f, with_holder(target, p + 1))
     } else {
         quiet(f, target)
@@ -157,7 +148,7 @@ fn unlock(look: Looks, p: u32, f: u32) -> Turn
     ensures { λ r. ⌜ r ≡ turnOf (Call.Unlock p f) look ⌝ }
 {
     let target = look.target;
-    if look.w & locked_by(target, p) {
+    if look.w & is_held_by(target.holder, p) {
         quiet(f, with_holder(target, 0))
     } else {
         quiet(f, target)
@@ -168,9 +159,8 @@ fn open(look: Looks, p: u32, f: u32) -> Turn
     requires { ⌜ p < mostProcesses ⌝ }
     ensures { λ r. ⌜ r ≡ turnOf (Call.Open p f) look ⌝ }
 {
-    let source = look.source;
     let target = look.target;
-    if look.r & unlocked(source) {
+    if look.r & is_free(look.holder) {
         quiet(f, with_mark(target, p, 1))
     } else {
         quiet(f, target)
@@ -181,9 +171,8 @@ fn close(look: Looks, p: u32, f: u32) -> Turn
     requires { ⌜ p < mostProcesses ⌝ }
     ensures { λ r. ⌜ r ≡ turnOf (Call.Close p f) look ⌝ }
 {
-    let source = look.source;
     let target = look.target;
-    if look.r & has_open(source, p) {
+    if look.r & look.opened {
         quiet(f, with_mark(target, p, 0))
     } else {
         quiet(f, target)
@@ -194,10 +183,9 @@ fn testlock(look: Looks, p: u32, f: u32) -> Turn
     requires { ⌜ p < mostProcesses ⌝ }
     ensures { λ r. ⌜ r ≡ turnOf (Call.Testlock p f) look ⌝ }
 {
-    let source = look.source;
     let target = look.target;
     if look.r & look.w {
-        let answer = yes_or_no(locked_by(source, p));
+        let answer = yes_or_no(is_held_by(look.holder, p));
         Turn {
             answer,
             file: f,
@@ -212,12 +200,11 @@ fn copy(look: Looks, p: u32, f: u32, x: u32) -> Turn
     requires { ⌜ p < mostProcesses ⌝ }
     ensures { λ r. ⌜ r ≡ turnOf (Call.Copy p f x) look ⌝ }
 {
-    let source = look.source;
     let target = look.target;
-    if look.r & look.w & has_open(source, p) & free_for(source, p) & locked_by(target, p) {
+    if look.r & look.w & look.opened & free_for(look.holder, p) & is_held_by(target.holder, p) {
         quiet(
             x,
-            with_content(target, copied_to(target.content, source.content)),
+            with_content(target, copied_to(target.content, look.content)),
         )
     } else {
         quiet(x, target)

@@ -1,3 +1,2 @@
 -- What a reader must believe of lists of calls.
 pub mod Lists
-pub mod Looking

@@ -7,18 +7,12 @@ use crate::Listed;
 use calling::decoding::decode;
 use calling::entry::changeable;
 use calling::entry::file_of;
-use calling::entry::process_of;
+use calling::entry::look_on;
 use calling::stepping::step;
 use judging::fitting::judge;
-use judging::rights::has_r;
-use judging::rights::has_w;
-use judging::rights::right_of;
 use rules::Answer;
-use rules::Call;
 use rules::Decoded;
-use rules::Looks;
 use rules::Setup;
-use rules::Sheet;
 use rules::Store;
 ghost use mathlib.Core.Path.{_≡_};
 ghost use mathlib.Core.Bool.{true};
@@ -29,7 +23,6 @@ ghost use Rattle.rules.specs.Setups.{accepted};
 ghost use Rattle.rules.specs.Answers.{kindOf, valueOf};
 ghost use Rattle.rules.specs.Entries.{decoded};
 ghost use Rattle.lists.specs.Lists.{answerWidth, callsIn, numbersAt, callsOf, endOf, answersOver, inNumbers, listRefusal, listed, roomAfter, listNumbersOf};
-ghost use Rattle.lists.specs.Looking.{looksOn};
 
 fn kind_of(answer: Answer) -> u32
     ensures { λ r. ⌜ r ≡ kindOf answer ⌝ }
@@ -63,29 +56,6 @@ fn put(answers: &mut [u32], i: usize, answer: Answer)
     let at = i * ANSWER_WIDTH;
     answers[at] = kind_of(answer);
     answers[at + 1] = value_of(answer);
-}
-
-fn look_on(
-    rights: &[u8],
-    desk: &[u8],
-    class: &[u8],
-    call: Call,
-    source: Sheet,
-    target: Sheet,
-) -> Looks
-    ensures { λ r. ⌜ r ≡ looksOn (now (rights .entry)) (now (desk .entry)) (now (class .entry)) call source target ⌝ }
-{
-    let p = process_of(call) as usize;
-    let f = file_of(call) as usize;
-    let x = changeable(call) as usize;
-    let r = has_r(right_of(rights, desk, class, p, f));
-    let w = has_w(right_of(rights, desk, class, p, x));
-    Looks {
-        r,
-        w,
-        source,
-        target,
-    }
 }
 
 // Call i of a list, or its refusal.

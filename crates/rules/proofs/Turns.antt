@@ -12,7 +12,7 @@ use Rattle.rules.specs.declared.Looks.{Looks}
 use Rattle.rules.proofs.Stores.{withSheet-own}
 
 -- a turn is the effect and what it tells where the call goes through, and the sheet as it is where it does not
-pub turn-goes : (c : Call) (k : Looks) → goes c k ≡ true → turnOf c k ≡ record { answer = tells c (k .source); file = changeable c; sheet = changes c (k .source) (k .target) }
+pub turn-goes : (c : Call) (k : Looks) → goes c k ≡ true → turnOf c k ≡ record { answer = tells c (k .holder) (k .content); file = changeable c; sheet = changes c (k .content) (k .target) }
 unfolding turnOf
 turn-goes c k e = simp e
 

@@ -4,7 +4,7 @@ use mathlib.Core.Bool.{Bool, _&&_, _||_, cond}
 use mathlib.Core.List.{List, [], _∷_}
 use lib.ListN.{getD, set}
 use Rattle.rules.specs.Setups.{mayRead, mayWrite}
-use Rattle.rules.specs.Stores.{unlocked, lockedBy, hasOpen, sheetOf, withSheet}
+use Rattle.rules.specs.Stores.{isFree, isHeldBy, unlocked, lockedBy, hasOpen, sheetOf, withSheet}
 use Rattle.rules.specs.declared.Setup.{Setup}
 use Rattle.rules.specs.declared.Content.{Content}
 use Rattle.rules.specs.declared.Sheet.{Sheet}
@@ -89,29 +89,32 @@ changeable (Testlock p f) = f
 changeable (Copy p f x) = x
 
 -- "f unlocked or locked by p"
-abbrev pub freeFor : Sheet → ℕ → Bool
-freeFor sheet p = unlocked sheet || lockedBy sheet p
+abbrev pub freeFor : ℕ → ℕ → Bool
+freeFor holder p = isFree holder || isHeldBy holder p
 
--- what a call looks at: R on f's class, W on the class of the file that it can change, and the sheets of the two
+-- what a call looks at: R on f's class and W on the class of the file that it can change; whether p has f open, the holder
+-- and the content of f; and the sheet of the file that it can change, the target
 abbrev pub looksAt : Setup → Store → Call → Looks
 looksAt s m call =
     record {
       r = mayRead s (processOf call) (fileOf call);
       w = mayWrite s (processOf call) (changeable call);
-      source = sheetOf m (fileOf call);
+      opened = hasOpen (sheetOf m (fileOf call)) (processOf call);
+      holder = sheetOf m (fileOf call) .holder;
+      content = sheetOf m (fileOf call) .content;
       target = sheetOf m (changeable call);
     }
 
 -- the column "Goes through when"
 abbrev pub goes : Call → Looks → Bool
-goes (Read p f) k = k .r && hasOpen (k .source) p && freeFor (k .source) p
+goes (Read p f) k = k .r && k .opened && freeFor (k .holder) p
 goes (Write p f x) k = k .w && lockedBy (k .target) p
 goes (Lock p f) k = k .w && unlocked (k .target)
 goes (Unlock p f) k = k .w && lockedBy (k .target) p
-goes (Open p f) k = k .r && unlocked (k .source)
-goes (Close p f) k = k .r && hasOpen (k .source) p
+goes (Open p f) k = k .r && isFree (k .holder)
+goes (Close p f) k = k .r && k .opened
 goes (Testlock p f) k = k .r && k .w
-goes (Copy p f x) k = k .r && k .w && hasOpen (k .source) p && freeFor (k .source) p && lockedBy (k .target) p
+goes (Copy p f x) k = k .r && k .w && k .opened && freeFor (k .holder) p && lockedBy (k .target) p
 
 abbrev pub withHolder : Sheet → ℕ → Sheet
 withHolder sheet h = record { holder = h; content = sheet .content; readers = sheet .readers }
@@ -123,39 +126,39 @@ abbrev pub withMark : Sheet → ℕ → ℕ → Sheet
 withMark sheet p mark = record { holder = sheet .holder; content = sheet .content; readers = set (sheet .readers) p mark }
 
 -- the column "Effect": the next sheet of the file that the call can change
-abbrev pub changes : Call → Sheet → Sheet → Sheet
-changes (Read p f) source target = target
-changes (Write p f x) source target = withContent target (writtenTo (target .content) x)
-changes (Lock p f) source target = withHolder target (p + 1)
-changes (Unlock p f) source target = withHolder target 0
-changes (Open p f) source target = withMark target p 1
-changes (Close p f) source target = withMark target p 0
-changes (Testlock p f) source target = target
-changes (Copy p f x) source target = withContent target (copiedTo (target .content) (source .content))
+abbrev pub changes : Call → Content → Sheet → Sheet
+changes (Read p f) content target = target
+changes (Write p f x) content target = withContent target (writtenTo (target .content) x)
+changes (Lock p f) content target = withHolder target (p + 1)
+changes (Unlock p f) content target = withHolder target 0
+changes (Open p f) content target = withMark target p 1
+changes (Close p f) content target = withMark target p 0
+changes (Testlock p f) content target = target
+changes (Copy p f x) content target = withContent target (copiedTo (target .content) content)
 
 abbrev pub yesOrNo : Bool → Answer
 yesOrNo held = cond held Yes No
 
 -- the column "Effect": what a call that goes through answers
-abbrev pub tells : Call → Sheet → Answer
-tells (Read p f) source = readOf (source .content)
-tells (Write p f x) source = Nothing
-tells (Lock p f) source = Nothing
-tells (Unlock p f) source = Nothing
-tells (Open p f) source = Nothing
-tells (Close p f) source = Nothing
-tells (Testlock p f) source = yesOrNo (lockedBy source p)
-tells (Copy p f x) source = Nothing
+abbrev pub tells : Call → ℕ → Content → Answer
+tells (Read p f) holder content = readOf content
+tells (Write p f x) holder content = Nothing
+tells (Lock p f) holder content = Nothing
+tells (Unlock p f) holder content = Nothing
+tells (Open p f) holder content = Nothing
+tells (Close p f) holder content = Nothing
+tells (Testlock p f) holder content = yesOrNo (isHeldBy holder p)
+tells (Copy p f x) holder content = Nothing
 
 -- the two columns on a setup and a store
 unfoldable pub goesThrough : Setup → Store → Call → Bool
 goesThrough s m call = goes call (looksAt s m call)
 
 unfoldable pub effect : Store → Call → Sheet
-effect m call = changes call (sheetOf m (fileOf call)) (sheetOf m (changeable call))
+effect m call = changes call (sheetOf m (fileOf call) .content) (sheetOf m (changeable call))
 
 unfoldable pub says : Store → Call → Answer
-says m call = tells call (sheetOf m (fileOf call))
+says m call = tells call (sheetOf m (fileOf call) .holder) (sheetOf m (fileOf call) .content)
 
 -- a call that does not go through answers "nothing" and leaves the store as it is
 unfoldable pub answerTo : Setup → Store → Call → Answer
@@ -168,9 +171,9 @@ nextStore s m call = cond (goesThrough s m call) (withSheet m (changeable call) 
 unfoldable pub turnOf : Call → Looks → Turn
 turnOf call k =
     record {
-      answer = cond (goes call k) (tells call (k .source)) Nothing;
+      answer = cond (goes call k) (tells call (k .holder) (k .content)) Nothing;
       file = changeable call;
-      sheet = cond (goes call k) (changes call (k .source) (k .target)) (k .target);
+      sheet = cond (goes call k) (changes call (k .content) (k .target)) (k .target);
     }
 
 -- a turn that answers nothing

@@ -19,11 +19,17 @@ abbrev pub isBlank : Content → Bool
 isBlank content = eqb (content .figure) 0
 
 -- a file's holder is 0 where it is unlocked, else the process plus one; an open mark is 1
+abbrev pub isFree : ℕ → Bool
+isFree holder = eqb holder 0
+
+abbrev pub isHeldBy : ℕ → ℕ → Bool
+isHeldBy holder p = eqb holder (p + 1)
+
 abbrev pub unlocked : Sheet → Bool
-unlocked sheet = eqb (sheet .holder) 0
+unlocked sheet = isFree (sheet .holder)
 
 abbrev pub lockedBy : Sheet → ℕ → Bool
-lockedBy sheet p = eqb (sheet .holder) (p + 1)
+lockedBy sheet p = isHeldBy (sheet .holder) p
 
 abbrev pub markOf : Sheet → ℕ → ℕ
 markOf sheet p = getD (sheet .readers) p 0

@@ -93,11 +93,14 @@ pub struct GivenStore {
     pub store: Store,
 }
 
-// What a call looks at: R on the class of its file f, W on the class of the file that it can change, and their sheets.
+// What a call looks at: R on the class of its file f, W on the class of the file that it can change; of f whether the
+// process has it open, its holder and its content; and the sheet of the file that it can change.
 pub struct Looks {
     pub r: bool,
     pub w: bool,
-    pub source: Sheet,
+    pub opened: bool,
+    pub holder: u32,
+    pub content: Content,
     pub target: Sheet,
 }
 

@@ -9,14 +9,11 @@ use Rattle.rules.proofs.Turns.{turn-goes, turn-stays}
 use Rattle.calling.proofs.stepping.copy.Statement.{statement}
 use Rattle.calling.proofs.stepping.copy.Tie as tie
 
-has-open-requires : tie.Need-has-open-requires
-has-open-requires c κs = search needs
-
 free-for-requires : tie.Need-free-for-requires
 free-for-requires c κs = search needs
 
-locked-by-requires : tie.Need-locked-by-requires
-locked-by-requires c κs = search needs
+is-held-by-requires : tie.Need-is-held-by-requires
+is-held-by-requires c κs = search needs
 
 copied-to-requires : tie.Need-copied-to-requires
 copied-to-requires c κs = search needs
@@ -31,22 +28,21 @@ quiet-requires-2 : tie.Need-quiet-requires-2
 quiet-requires-2 c κs = search needs
 
 -- the test is the rule's condition
-asked : (c : tie.After-locked-by) → (let a = c .before .before .before .before .before .before .args in (a .look .r && a .look .w && c .before .before .has-open .result && c .before .free-for .result && c .locked-by .result) ≡ goes (Copy (a .p) (a .f) (a .x)) (a .look))
-asked c = simp (c .before .before .has-open .ensures, c .before .free-for .ensures, c .locked-by .ensures)
+asked : (c : tie.After-is-held-by) → (let a = c .before .before .before .before .before .args in (a .look .r && a .look .w && a .look .opened && c .before .free-for .result && c .is-held-by .result) ≡ goes (Copy (a .p) (a .f) (a .x)) (a .look))
+asked c = simp (c .before .free-for .ensures, c .is-held-by .ensures)
 
 returns : tie.Need-returns
-returns c = let a = c .before .before .before .before .before .before .before .before .before .before .args in rw (turn-goes (Copy (a .p) (a .f) (a .x)) (a .look) (sym (asked (c .before .before .before .before)) ∙ c .before .before .before .if1 .taken)) (simp (c .quiet .ensures, c .before .with-content .ensures, c .before .before .copied-to .ensures))
+returns c = let a = c .before .before .before .before .before .before .before .before .before .args in rw (turn-goes (Copy (a .p) (a .f) (a .x)) (a .look) (sym (asked (c .before .before .before .before)) ∙ c .before .before .before .if1 .taken)) (simp (c .quiet .ensures, c .before .with-content .ensures, c .before .before .copied-to .ensures))
 
 returns-2 : tie.Need-returns-2
-returns-2 c = let a = c .before .before .before .before .before .before .before .before .args in rw (turn-stays (Copy (a .p) (a .f) (a .x)) (a .look) (sym (asked (c .before .before)) ∙ c .before .if1 .left)) (c .quiet2 .ensures)
+returns-2 c = let a = c .before .before .before .before .before .before .before .args in rw (turn-stays (Copy (a .p) (a .f) (a .x)) (a .look) (sym (asked (c .before .before)) ∙ c .before .if1 .left)) (c .quiet2 .ensures)
 
 pub copy-spec : {M : Type 1} → statement M
 copy-spec =
     tie.close
     (tie.spec
-    has-open-requires
     free-for-requires
-    locked-by-requires
+    is-held-by-requires
     copied-to-requires
     with-content-requires
     quiet-requires

@@ -9,9 +9,6 @@ use Rattle.rules.proofs.Turns.{turn-goes, turn-stays}
 use Rattle.calling.proofs.stepping.read.Statement.{statement}
 use Rattle.calling.proofs.stepping.read.Tie as tie
 
-has-open-requires : tie.Need-has-open-requires
-has-open-requires c κs = search needs
-
 free-for-requires : tie.Need-free-for-requires
 free-for-requires c κs = search needs
 
@@ -22,22 +19,15 @@ quiet-requires : tie.Need-quiet-requires
 quiet-requires c κs = search needs
 
 -- the test is the rule's condition
-asked : (c : tie.After-free-for) → (let a = c .before .before .before .before .before .args in (a .look .r && c .before .before .has-open .result && c .free-for .result) ≡ goes (Read (a .p) (a .f)) (a .look))
-asked c = simp (c .before .before .has-open .ensures, c .free-for .ensures)
+asked : (c : tie.After-free-for) → (let a = c .before .before .before .args in (a .look .r && a .look .opened && c .free-for .result) ≡ goes (Read (a .p) (a .f)) (a .look))
+asked c = simp (c .free-for .ensures)
 
 returns : tie.Need-returns
-returns c = let a = c .before .before .before .before .before .before .before .args in rw (turn-goes (Read (a .p) (a .f)) (a .look) (sym (asked (c .before .before)) ∙ c .before .if1 .taken)) (simp (c .read-of .ensures))
+returns c = let a = c .before .before .before .before .before .args in rw (turn-goes (Read (a .p) (a .f)) (a .look) (sym (asked (c .before .before)) ∙ c .before .if1 .taken)) (simp (c .read-of .ensures))
 
 returns-2 : tie.Need-returns-2
-returns-2 c = let a = c .before .before .before .before .before .before .before .args in rw (turn-stays (Read (a .p) (a .f)) (a .look) (sym (asked (c .before .before)) ∙ c .before .if1 .left)) (c .quiet .ensures)
+returns-2 c = let a = c .before .before .before .before .before .args in rw (turn-stays (Read (a .p) (a .f)) (a .look) (sym (asked (c .before .before)) ∙ c .before .if1 .left)) (c .quiet .ensures)
 
 pub read-spec : {M : Type 1} → statement M
 read-spec =
-    tie.close
-    (tie.spec
-    has-open-requires
-    free-for-requires
-    read-of-requires
-    quiet-requires
-    returns
-    returns-2)
+    tie.close (tie.spec free-for-requires read-of-requires quiet-requires returns returns-2)

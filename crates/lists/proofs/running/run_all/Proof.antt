@@ -86,7 +86,7 @@ slice-aggregate-look-on-3 : tie.Need-slice-aggregate-look-on-3 Inv-loop μ-loop
 slice-aggregate-look-on-3 c = search needs
 
 look-on-requires : tie.Need-look-on-requires Inv-loop μ-loop
-look-on-requires c κs = search needs
+look-on-requires c κs = in-range (c .before .before .before .before .before .before .before .before) .process
 
 -- what the call looks at is what it looks at in the store
 looked : (c : tie.After-look-on Inv-loop μ-loop) → c .look-on .result ≡ looksAt (c .before .before .before .before .before .before .before .before .before .before .before .before .before .before .before .before .before .before .before .args .setup) (c .before .before .before .before .before .before .before .before .before .before .before .before .before .loop .next) (c .before .before .before .before .before .before .before .before .before .decoded2 .given .0 .0)

@@ -1,9 +1,10 @@
--- For the loop, which is no entry: what a call looks at, from a setup's three tables and the two sheets.
+-- What a call looks at, from a setup's three tables and the two sheets.
 use Prim.Native.Nat.{ℕ, _+_, _*_}
 use mathlib.Core.List.{List}
 use lib.ListN.{getD}
 use Rattle.rules.specs.Sizes.{mostClasses}
 use Rattle.rules.specs.Setups.{hasR, hasW}
+use Rattle.rules.specs.Stores.{hasOpen}
 use Rattle.rules.specs.Calls.{processOf, fileOf, changeable}
 use Rattle.rules.specs.declared.Sheet.{Sheet}
 use Rattle.rules.specs.declared.Call.{Call}
@@ -17,6 +18,8 @@ looksOn rights desk class call source target =
     record {
       r = hasR (rightIn rights desk class (processOf call) (fileOf call));
       w = hasW (rightIn rights desk class (processOf call) (changeable call));
-      source = source;
+      opened = hasOpen source (processOf call);
+      holder = source .holder;
+      content = source .content;
       target = target;
     }

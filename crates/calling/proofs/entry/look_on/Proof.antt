@@ -1,14 +1,11 @@
--- `lists::running::look_on` meets its contract, by what its callees answer.
+-- `calling::entry::look_on` meets its contract, by what its callees answer.
 -- Assumes nothing.
 use borrow.Author.Needs.{needs}
-use Rattle.lists.proofs.running.look_on.Statement.{statement}
-use Rattle.lists.proofs.running.look_on.Tie as tie
+use Rattle.calling.proofs.entry.look_on.Statement.{statement}
+use Rattle.calling.proofs.entry.look_on.Tie as tie
 
 process-of-requires : tie.Need-process-of-requires
 process-of-requires c κs = search needs
-
-cast-p : tie.Need-cast-p
-cast-p c = search needs
 
 file-of-requires : tie.Need-file-of-requires
 file-of-requires c κs = search needs
@@ -22,11 +19,17 @@ changeable-requires c κs = search needs
 cast-x : tie.Need-cast-x
 cast-x c = search needs
 
+cast-right-of : tie.Need-cast-right-of
+cast-right-of c = search needs
+
 right-of-requires : tie.Need-right-of-requires
 right-of-requires c κs = search needs
 
 has-r-requires : tie.Need-has-r-requires
 has-r-requires c κs = search needs
+
+cast-right-of-2 : tie.Need-cast-right-of-2
+cast-right-of-2 c = search needs
 
 right-of-requires-2 : tie.Need-right-of-requires-2
 right-of-requires-2 c κs = search needs
@@ -34,21 +37,36 @@ right-of-requires-2 c κs = search needs
 has-w-requires : tie.Need-has-w-requires
 has-w-requires c κs = search needs
 
+has-open-requires : tie.Need-has-open-requires
+has-open-requires c κs = search needs
+
 returns : tie.Need-returns
-returns c = simp (c .before .before .has-r .ensures, c .has-w .ensures, c .before .before .before .right-of .ensures, c .before .right-of2 .ensures, c .before .before .before .before .before .before .process-of .ensures, c .before .before .before .before .before .file-of .ensures, c .before .before .before .before .changeable .ensures)
+returns c =
+    simp (
+      c .before .before .before .before .has-r .ensures,
+      c .before .before .has-w .ensures,
+      c .before .has-open .ensures,
+      c .before .before .before .before .before .right-of .ensures,
+      c .before .before .before .right-of2 .ensures,
+      c .before .before .before .before .before .before .before .before .process-of .ensures,
+      c .before .before .before .before .before .before .before .file-of .ensures,
+      c .before .before .before .before .before .before .changeable .ensures,
+    )
 
 pub look-on-spec : {M : Type 1} → statement M
 look-on-spec =
     tie.close
     (tie.spec
     process-of-requires
-    cast-p
     file-of-requires
     cast-f
     changeable-requires
     cast-x
+    cast-right-of
     right-of-requires
     has-r-requires
+    cast-right-of-2
     right-of-requires-2
     has-w-requires
+    has-open-requires
     returns)
