@@ -32,16 +32,10 @@ fn within(count: u32, most: usize) -> bool
 pub fn within_sizes(desks: u32, classes: u32, processes: u32, files: u32) -> bool
     ensures { λ r. ⌜ r ≡ withinSizes desks classes processes files ⌝ }
 {
-    if !within(desks, DESKS) {
-        return false;
-    }
-    if !within(classes, CLASSES) {
-        return false;
-    }
-    if !within(processes, PROCESSES) {
-        return false;
-    }
-    within(files, FILES)
+    within(desks, DESKS)
+        & within(classes, CLASSES)
+        & within(processes, PROCESSES)
+        & within(files, FILES)
 }
 
 fn entry_fits(count: usize, bound: usize, at: usize, entry: u8) -> bool
@@ -123,16 +117,10 @@ fn classes_fit(setup: Setup) -> bool
 fn accepted(setup: Setup) -> bool
     ensures { λ r. ⌜ r ≡ accepted setup ⌝ }
 {
-    if !within_sizes(setup.desks, setup.classes, setup.processes, setup.files) {
-        return false;
-    }
-    if !rights_fit(setup) {
-        return false;
-    }
-    if !desks_fit(setup) {
-        return false;
-    }
-    classes_fit(setup)
+    within_sizes(setup.desks, setup.classes, setup.processes, setup.files)
+        & rights_fit(setup)
+        & desks_fit(setup)
+        & classes_fit(setup)
 }
 
 fn blank_sheet() -> Sheet
