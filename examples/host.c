@@ -32,7 +32,7 @@ static const struct call {
     {"read", DW_READ, 2, 1, 0},
 };
 
-/* The one store of this host: too large to be copied about for each call. */
+/* The one store of this host, which it lends for each call. */
 static dw_store store;
 
 static void print_answer(const char *name, dw_answer answer)

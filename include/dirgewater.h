@@ -5,7 +5,8 @@
  * makes a fresh store for it, keeps that store in its own memory, and lends it for each call.
  *
  * What is promised. Each function below is proved to give exactly what its comment says, refusals
- * too, and to end, for every value of every number and of every struct. A setup or a store with any
+ * too, and to end, for every value of every number and of every struct. That the structs of this header
+ * lie in memory as the library has them is tested, not proved. A setup or a store with any
  * bytes in it may be handed in: it is judged first, and refused with 15 or 16 where it is unsound.
  *
  * What is asked in return, of pointers alone, since nothing can judge them:
@@ -183,7 +184,7 @@ uint32_t dw_judge(dw_setup setup, dw_store store);
 dw_answer dw_call_in_place(dw_setup setup, dw_store *store, uint32_t op, uint32_t p, uint32_t f, uint32_t x);
 
 /* The same call on a store by value, with the next store handed back: the same answer, the same next
- * store, the same refusals. It copies whole stores, where dw_call_in_place works on the one lent. */
+ * store, the same refusals. Use it where the old store is still wanted; either copies whole stores. */
 dw_called dw_call(dw_setup setup, dw_store store, uint32_t op, uint32_t p, uint32_t f, uint32_t x);
 
 /* A list of calls, run in order. calls has four numbers a call: op, p, f, x. Each call's answer, kind

@@ -1,8 +1,8 @@
 -- Laws of a list as a whole: what its run and its room are where it is refused and where it is not.
 -- Assumes nothing.
-use Prim.Native.Nat.{ℕ, _+_, _*_, _/_, _%_, _≤_}
+use Prim.Native.Nat.{ℕ, zero, suc, _*_, _/_, _%_, _≤_}
 use mathlib.Core.Path.{_≡_, refl, _∙_}
-use mathlib.Core.Bool.{true, not}
+use mathlib.Core.Bool.{true}
 use mathlib.Core.List.{List, [], _∷_, _++_}
 use mathlib.Core.Logic.{_≢_}
 use native.Mathlib.Omega.{arith}
@@ -15,11 +15,12 @@ use Rattle.rules.specs.Setups.{accepted}
 use Rattle.rules.specs.Stores.{fits}
 use Rattle.rules.specs.Calls.{Numbers}
 use Rattle.rules.specs.Refusals.{firstOf, refusal15, refusal16, judgeRefusal}
-use Rattle.rules.specs.Entries.{unless}
+use Rattle.rules.specs.Entries.{unless, called, ran}
 use Rattle.rules.specs.declared.Setup.{Setup}
 use Rattle.rules.specs.declared.Store.{Store}
 use Rattle.rules.proofs.Lists.{neither}
-use Rattle.rules.proofs.Refusals.{unmet-iff, firstOf-append}
+use Rattle.rules.proofs.Refusals.{unmet-iff, firstOf-append, judgeRefusal-iff}
+use Rattle.rules.proofs.Entries.{called-judged, ran-fits}
 use Rattle.rules.proofs.Told.{unless-refused}
 use Rattle.views.specs.Machine.{machine}
 use Rattle.lists.specs.Lists.{mostCalls, callWidth, answerWidth, callsIn, callsOf, endOf, answersOver, inNumbers, refusal10, refusal11, listOrder, listRefusal, listed, roomAfter}
@@ -93,3 +94,26 @@ end-none s m = refl
 pub answers-none : (s : Setup) (m : Store) → answersOver s m (callsOf []) ≡ []
 unfolding answersWhere callsOf table
 answers-none s m = refl
+
+pub room-none : (s : Setup) (m : Store) (room : List ℕ) → roomAfter s m [] room ≡ room
+unfolding roomAfter inNumbers
+room-none s m room = rw (answers-none s m) (either (listRefusal s m 0 (length room)))
+  where
+    either : (r : ℕ) → unless r (inNumbers [] ++ drop 0 room) room ≡ room
+    either zero = refl
+    either (suc r) = refl
+
+-- on an accepted setup and a store that fits, a run is the entry for one call, again and again, and its store still fits
+module _ (s : Setup) (a : accepted s ≡ true) where
+  pub end-called : (m : Store) → fits s m ≡ true → (n : Numbers) (rest : List Numbers) → endOf s m (n ∷ rest) ≡ endOf s (called s m n .store) rest
+  unfolding after
+  end-called m f n rest = rw (called-judged s m n (judgeRefusal-iff s m .1 (a, f)))
+
+  pub answers-called : (m : Store) → fits s m ≡ true → (n : Numbers) (rest : List Numbers) → answersOver s m (n ∷ rest) ≡ called s m n .answer ∷ answersOver s (called s m n .store) rest
+  unfolding answersWhere
+  answers-called m f n rest = rw (called-judged s m n (judgeRefusal-iff s m .1 (a, f)))
+
+pub end-fits : (s : Setup) (m : Store) (acts : List Numbers) → fits s m ≡ true → fits s (endOf s m acts) ≡ true
+unfolding after
+end-fits s m [] f = f
+end-fits s m (n ∷ acts) f = end-fits s (ran s m n .store) acts (ran-fits s m n f)

@@ -82,7 +82,7 @@ roomAfter s m list room =
     (inNumbers (answersOver s m (callsOf list)) ++ drop (callsIn list * answerWidth) room)
     room
 
--- 01's kinds for the answer to a list: 0 with the number of calls run, 4 with the refusal
+-- the answer to a list as two numbers: 0 and the number of calls run, or 01's 4 and the refusal
 abbrev pub listNumbersOf : ListAnswer → ℕ × ℕ
 listNumbersOf (Ran calls) = (0, calls)
 listNumbersOf (Stopped refusal) = (4, refusal)
