@@ -8,7 +8,7 @@ ghost use mathlib.Core.Path.{_≡_};
 ghost use Prim.Native.Nat.{_+_, _*_};
 ghost use lib.ListN.{getD};
 ghost use Rattle.rules.specs.Sizes.{mostClasses};
-ghost use Rattle.rules.specs.Setups.{hasR, hasW, mayRead, mayWrite};
+ghost use Rattle.rules.specs.Setups.{hasR, hasW, mayWrite};
 
 // An entry of a table, and 0 past its end.
 pub fn entry_at(entries: &[u8], at: usize) -> u8
@@ -36,15 +36,6 @@ pub fn has_w(right: u8) -> bool
     ensures { λ r. ⌜ r ≡ hasW right ⌝ }
 {
     (right == W) | (right == BOTH)
-}
-
-pub fn may_read(setup: Setup, p: usize, f: usize) -> bool
-    ensures { λ r. ⌜ r ≡ mayRead setup p f ⌝ }
-{
-    let rights = setup.rights;
-    let desk = setup.desk;
-    let class = setup.class;
-    has_r(right_of(&rights, &desk, &class, p, f))
 }
 
 pub fn may_write(setup: Setup, p: usize, f: usize) -> bool
