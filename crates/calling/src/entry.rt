@@ -68,7 +68,7 @@ pub fn changeable(call: Call) -> u32
     }
 }
 
-pub fn has_open(sheet: Sheet, p: u32) -> bool
+fn has_open(sheet: Sheet, p: u32) -> bool
     requires { ⌜ p < mostProcesses ⌝ }
     ensures { λ r. ⌜ r ≡ hasOpen sheet p ⌝ }
 {

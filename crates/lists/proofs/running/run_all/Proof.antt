@@ -31,7 +31,7 @@ add-after : tie.Need-add-after Inv-loop μ-loop
 add-after c = omega arith
 
 decode-at-requires : tie.Need-decode-at-requires Inv-loop μ-loop
-decode-at-requires c κs = c .loop-test .taken
+decode-at-requires c κs = omega arith
 
 enum-known-decoded : tie.Need-enum-known-decoded Inv-loop μ-loop
 enum-known-decoded c = search needs
