@@ -50,7 +50,7 @@ static uint32_t file_from(const dw_store *m, uint32_t f, int locked)
     for (uint32_t i = 0; i < DW_FILES; i++) {
         uint32_t at = (f + i) % DW_FILES;
 
-        if ((m->files[at].holder != 0) == locked)
+        if ((m->holders[at] != 0) == locked)
             return at;
     }
     return f;
@@ -60,7 +60,7 @@ static uint32_t file_from(const dw_store *m, uint32_t f, int locked)
 static uint32_t reader_from(const dw_store *m, uint32_t f, uint32_t p)
 {
     for (uint32_t i = 0; i < DW_PROCESSES; i++)
-        if (m->files[f].readers[(p + i) % DW_PROCESSES])
+        if (m->marks[DW_MARK(f, (p + i) % DW_PROCESSES)])
             return (p + i) % DW_PROCESSES;
     return p;
 }
@@ -69,10 +69,10 @@ static uint32_t reader_from(const dw_store *m, uint32_t f, uint32_t p)
 static uint32_t source_from(const dw_store *m, uint32_t f, uint32_t p)
 {
     for (uint32_t i = 0; i < DW_FILES; i++) {
-        const dw_sheet *sheet = &m->files[(f + i) % DW_FILES];
+        uint32_t at = (f + i) % DW_FILES;
 
-        if (sheet->readers[p] && sheet->holder == 0)
-            return (f + i) % DW_FILES;
+        if (m->marks[DW_MARK(at, p)] && m->holders[at] == 0)
+            return at;
     }
     return f;
 }
@@ -80,7 +80,7 @@ static uint32_t source_from(const dw_store *m, uint32_t f, uint32_t p)
 /* The process that has some locked file, from f on; p if none is locked. */
 static uint32_t holder_from(const dw_store *m, uint32_t f, uint32_t p)
 {
-    uint32_t holder = m->files[file_from(m, f, 1)].holder;
+    uint32_t holder = m->holders[file_from(m, f, 1)];
 
     return holder != 0 ? holder - 1 : p;
 }

@@ -39,22 +39,25 @@ static uint8_t right_of(const dw_setup *s, uint32_t p, uint32_t f)
     return s->rights[s->desk_of[p] * DW_CLASSES + s->class_of[f]];
 }
 
-static int sheet_is_blank(const dw_sheet *sheet)
+static int file_is_blank(const dw_store *m, uint32_t f)
 {
-    return sheet->holder == 0 && sheet->figure == 0 && entries_fit(sheet->readers, DW_PROCESSES, 0, 0);
+    return m->holders[f] == 0 && m->figures[f] == 0 && entries_fit(m->marks + DW_MARK(f, 0), DW_PROCESSES, 0, 0);
 }
 
-static int sheet_fits(const dw_setup *s, uint32_t f, const dw_sheet *sheet)
+static int file_fits(const dw_setup *s, const dw_store *m, uint32_t f)
 {
-    if (sheet->holder > s->processes)
+    const uint8_t *marks = m->marks + DW_MARK(f, 0);
+    uint32_t holder = m->holders[f];
+
+    if (holder > s->processes)
         return 0;
-    if (sheet->holder != 0 && !(right_of(s, sheet->holder - 1, f) & DW_W))
+    if (holder != 0 && !(right_of(s, holder - 1, f) & DW_W))
         return 0;
     for (uint32_t p = 0; p < s->processes; p++)
-        if (sheet->readers[p] != 0 && (sheet->readers[p] != 1 || !(right_of(s, p, f) & DW_R)))
+        if (marks[p] != 0 && (marks[p] != 1 || !(right_of(s, p, f) & DW_R)))
             return 0;
     for (uint32_t p = s->processes; p < DW_PROCESSES; p++)
-        if (sheet->readers[p] != 0)
+        if (marks[p] != 0)
             return 0;
     return 1;
 }
@@ -62,10 +65,10 @@ static int sheet_fits(const dw_setup *s, uint32_t f, const dw_sheet *sheet)
 static int store_fits(const dw_setup *s, const dw_store *m)
 {
     for (uint32_t f = 0; f < s->files; f++)
-        if (!sheet_fits(s, f, &m->files[f]))
+        if (!file_fits(s, m, f))
             return 0;
     for (uint32_t f = s->files; f < DW_FILES; f++)
-        if (!sheet_is_blank(&m->files[f]))
+        if (!file_is_blank(m, f))
             return 0;
     return 1;
 }
@@ -99,61 +102,60 @@ static dw_answer answer(uint32_t kind, uint32_t value)
     return a;
 }
 
-static int free_for(const dw_sheet *sheet, uint32_t p)
+static int free_for(uint32_t holder, uint32_t p)
 {
-    return sheet->holder == 0 || sheet->holder == p + 1;
+    return holder == 0 || holder == p + 1;
 }
 
 static void copy(const dw_setup *s, dw_store *m, uint32_t p, uint32_t f, uint32_t x)
 {
-    const dw_sheet *from = &m->files[f];
-    dw_sheet *to = &m->files[x];
-
-    if (right_of(s, p, f) & DW_R && right_of(s, p, x) & DW_W && from->readers[p] && free_for(from, p) &&
-        to->holder == p + 1)
-        to->figure = from->figure;
+    if (right_of(s, p, f) & DW_R && right_of(s, p, x) & DW_W && m->marks[DW_MARK(f, p)] &&
+        free_for(m->holders[f], p) && m->holders[x] == p + 1)
+        m->figures[x] = m->figures[f];
 }
 
 /* A call on a setup and a store that were judged. */
 static dw_answer step(const dw_setup *s, dw_store *m, uint32_t op, uint32_t p, uint32_t f, uint32_t x)
 {
     uint32_t refusal = numbers_refusal(s, op, p, f, x);
-    dw_sheet *sheet;
+    uint32_t *holder;
+    uint8_t *mark;
     int r, w;
 
     if (refusal != 0)
         return answer(DW_REFUSED, refusal);
-    sheet = &m->files[f];
+    holder = &m->holders[f];
+    mark = &m->marks[DW_MARK(f, p)];
     r = right_of(s, p, f) & DW_R;
     w = right_of(s, p, f) & DW_W;
     switch (op) {
     case DW_READ:
-        if (r && sheet->readers[p] && free_for(sheet, p))
-            return answer(DW_FIGURE, sheet->figure);
+        if (r && *mark && free_for(*holder, p))
+            return answer(DW_FIGURE, m->figures[f]);
         break;
     case DW_WRITE:
-        if (w && sheet->holder == p + 1)
-            sheet->figure = x;
+        if (w && *holder == p + 1)
+            m->figures[f] = x;
         break;
     case DW_LOCK:
-        if (w && sheet->holder == 0)
-            sheet->holder = p + 1;
+        if (w && *holder == 0)
+            *holder = p + 1;
         break;
     case DW_UNLOCK:
-        if (w && sheet->holder == p + 1)
-            sheet->holder = 0;
+        if (w && *holder == p + 1)
+            *holder = 0;
         break;
     case DW_OPEN:
-        if (r && sheet->holder == 0)
-            sheet->readers[p] = 1;
+        if (r && *holder == 0)
+            *mark = 1;
         break;
     case DW_CLOSE:
         if (r)
-            sheet->readers[p] = 0;
+            *mark = 0;
         break;
     case DW_TESTLOCK:
         if (r && w)
-            return answer(sheet->holder == p + 1 ? DW_YES : DW_NO, 0);
+            return answer(*holder == p + 1 ? DW_YES : DW_NO, 0);
         break;
     case DW_COPY:
         copy(s, m, p, f, x);

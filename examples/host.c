@@ -65,6 +65,6 @@ int main(void)
     }
     /* No process 3 is in the setup: the call is refused, and the store stays as it was. */
     print_answer("read", dw_call_in_place(accepted.setup, &store, DW_READ, 3, 1, 0));
-    printf("file 1 holds\t%u\n", store.files[1].figure);
+    printf("file 1 holds\t%u\n", store.figures[1]);
     return 0;
 }

@@ -56,6 +56,10 @@ extern "C" {
 /* Rights of a setup: one for each desk and class, whatever the counts are. */
 #define DW_RIGHTS (DW_DESKS * DW_CLASSES)
 
+/* Open marks of a store: one for each file and process, whatever the counts are, and where each lies. */
+#define DW_MARKS (DW_FILES * DW_PROCESSES)
+#define DW_MARK(f, p) ((f) * DW_PROCESSES + (p))
+
 /* A call in a list is four numbers, its answer two. */
 #define DW_CALL_WIDTH 4
 #define DW_ANSWER_WIDTH 2
@@ -121,18 +125,13 @@ typedef struct dw_setup {
     uint8_t class_of[DW_FILES];     /* the class of each file */
 } dw_setup;                         /* 368 bytes */
 
-/* What a store knows of one file. */
-typedef struct dw_sheet {
-    uint32_t holder;                /* 0 for unlocked, else the process that has it locked, plus one */
-    uint32_t figure;
-    uint8_t readers[DW_PROCESSES];  /* 1 where the process has the file open, else 0 */
-} dw_sheet;                         /* 72 bytes */
-
 /* A store fits its setup when each locked file is held by an existing process whose desk has W on the
  * file's class, each process that has a file open exists and its desk has R on that class, open marks
- * are 0 or 1, and the sheets past the files are all 0. Every call keeps a store fitting. */
+ * are 0 or 1, and all that lies past the files is 0. Every call keeps a store fitting. */
 typedef struct dw_store {
-    dw_sheet files[DW_FILES];
+    uint32_t holders[DW_FILES];     /* 0 for unlocked, else the process that has the file locked, plus one */
+    uint32_t figures[DW_FILES];
+    uint8_t marks[DW_MARKS];        /* 1 where process p has file f open, else 0, at DW_MARK(f, p) */
 } dw_store;                         /* 2304 bytes */
 
 typedef struct dw_given_setup {

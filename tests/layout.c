@@ -11,7 +11,6 @@
 #include "dirgewater.h"
 
 _Static_assert(sizeof(dw_setup) == 368, "a setup has no gaps");
-_Static_assert(sizeof(dw_sheet) == 72, "a sheet has no gaps");
 _Static_assert(sizeof(dw_store) == 2304, "a store has no gaps");
 _Static_assert(sizeof(dw_given_setup) == 372 && sizeof(dw_given_store) == 2308, "a number, and what is given");
 _Static_assert(sizeof(dw_called) == 2312 && sizeof(dw_listed) == 2312, "an answer, and a store");
@@ -95,10 +94,10 @@ static dw_store opened_store(void)
     dw_store m;
 
     for (uint32_t f = 0; f < DW_FILES; f++) {
-        m.files[f].holder = 0;
-        m.files[f].figure = 0x01020304u * (f + 1) + 0x80u;
+        m.holders[f] = 0;
+        m.figures[f] = 0x01020304u * (f + 1) + 0x80u;
         for (uint32_t p = 0; p < DW_PROCESSES; p++)
-            m.files[f].readers[p] = (uint8_t)below(2);
+            m.marks[DW_MARK(f, p)] = (uint8_t)below(2);
     }
     return m;
 }
@@ -111,8 +110,8 @@ static dw_store locked_store(void)
     for (uint32_t f = 0; f < DW_FILES; f++) {
         uint32_t p = (f * 37 + 11) % DW_PROCESSES;
 
-        m.files[f].holder = p + 1;
-        m.files[f].readers[p] = 1;
+        m.holders[f] = p + 1;
+        m.marks[DW_MARK(f, p)] = 1;
     }
     return m;
 }
@@ -239,8 +238,8 @@ static void reads_rights(void)
             dw_called opened = dw_call(s, m, DW_OPEN, p, f, 0);
             dw_called locked = dw_call(s, m, DW_LOCK, p, f, 0);
 
-            CHECK(opened.store.files[f].readers[p] == (right & DW_R ? 1 : 0));
-            CHECK(locked.store.files[f].holder == (right & DW_W ? p + 1 : 0));
+            CHECK(opened.store.marks[DW_MARK(f, p)] == (right & DW_R ? 1 : 0));
+            CHECK(locked.store.holders[f] == (right & DW_W ? p + 1 : 0));
         }
 }
 
@@ -256,8 +255,8 @@ static void reads_figures_and_marks(void)
         for (uint32_t p = 0; p < DW_PROCESSES; p++) {
             dw_answer a = dw_call(s, m, DW_READ, p, f, 0).answer;
 
-            if (m.files[f].readers[p])
-                CHECK(is_answer(a, DW_FIGURE, m.files[f].figure));
+            if (m.marks[DW_MARK(f, p)])
+                CHECK(is_answer(a, DW_FIGURE, m.figures[f]));
             else
                 CHECK(is_answer(a, DW_NOTHING, 0));
         }
@@ -272,7 +271,7 @@ static void reads_holders(void)
         for (uint32_t p = 0; p < DW_PROCESSES; p++) {
             dw_answer a = dw_call(s, m, DW_TESTLOCK, p, f, 0).answer;
 
-            CHECK(is_answer(a, m.files[f].holder == p + 1 ? DW_YES : DW_NO, 0));
+            CHECK(is_answer(a, m.holders[f] == p + 1 ? DW_YES : DW_NO, 0));
         }
 }
 
@@ -290,7 +289,7 @@ static uint32_t judged_with(const dw_setup *s, dw_store *m, uint32_t *number, ui
 static void judges_marks(const dw_setup *s, dw_store *m, uint32_t f)
 {
     for (uint32_t p = 0; p < DW_PROCESSES; p++) {
-        uint8_t *mark = &m->files[f].readers[p];
+        uint8_t *mark = &m->marks[DW_MARK(f, p)];
 
         *mark = 1;
         CHECK(dw_judge(*s, *m) == (f < F && p < P && right_of(s, p, f) & DW_R ? 0 : 16));
@@ -300,7 +299,7 @@ static void judges_marks(const dw_setup *s, dw_store *m, uint32_t f)
     }
 }
 
-/* Each number of each sheet, before and past the files, by whether the store still fits. */
+/* Each number of each file, before and past the files, by whether the store still fits. */
 static void judges_every_field(void)
 {
     dw_setup s = part_setup();
@@ -308,12 +307,11 @@ static void judges_every_field(void)
 
     CHECK(dw_judge(s, m) == 0);
     for (uint32_t f = 0; f < DW_FILES; f++) {
-        dw_sheet *sheet = &m.files[f];
         uint32_t p = f * 2;
 
-        CHECK(judged_with(&s, &m, &sheet->figure, 0xFFFFFFFFu) == (f < F ? 0 : 16));
-        CHECK(judged_with(&s, &m, &sheet->holder, P + 1) == 16);
-        CHECK(judged_with(&s, &m, &sheet->holder, p + 1) == (f < F && right_of(&s, p, f) & DW_W ? 0 : 16));
+        CHECK(judged_with(&s, &m, &m.figures[f], 0xFFFFFFFFu) == (f < F ? 0 : 16));
+        CHECK(judged_with(&s, &m, &m.holders[f], P + 1) == 16);
+        CHECK(judged_with(&s, &m, &m.holders[f], p + 1) == (f < F && right_of(&s, p, f) & DW_W ? 0 : 16));
         judges_marks(&s, &m, f);
     }
 }
@@ -396,9 +394,9 @@ static void gives_stores(void)
     given = dw_fresh(s);
     CHECK(given.refusal == 15);
     for (uint32_t f = 0; f < DW_FILES; f++) {
-        CHECK(given.store.files[f].holder == 0 && given.store.files[f].figure == 0);
+        CHECK(given.store.holders[f] == 0 && given.store.figures[f] == 0);
         for (uint32_t p = 0; p < DW_PROCESSES; p++)
-            CHECK(given.store.files[f].readers[p] == 2);
+            CHECK(given.store.marks[DW_MARK(f, p)] == 2);
     }
 }
 
@@ -441,18 +439,18 @@ static void call_gives(dw_setup s, dw_store m, struct numbers n, uint32_t kind, 
 /* The calls of the process that has file f locked, on a store all of whose numbers differ. */
 static void holder_calls(const dw_setup *s, const dw_store *m, uint32_t f)
 {
-    uint32_t p = m->files[f].holder - 1;
+    uint32_t p = m->holders[f] - 1;
     dw_store next = *m;
 
-    next.files[f].figure = 0xFEDCBA98u;
+    next.figures[f] = 0xFEDCBA98u;
     call_gives(*s, *m, call_of(DW_WRITE, p, f, 0xFEDCBA98u), DW_NOTHING, 0, &next);
     next = *m;
-    next.files[f].holder = 0;
+    next.holders[f] = 0;
     call_gives(*s, *m, call_of(DW_UNLOCK, p, f, 0), DW_NOTHING, 0, &next);
     next = *m;
-    next.files[f].readers[p] = 0;
+    next.marks[DW_MARK(f, p)] = 0;
     call_gives(*s, *m, call_of(DW_CLOSE, p, f, 0), DW_NOTHING, 0, &next);
-    call_gives(*s, *m, call_of(DW_READ, p, f, 0), DW_FIGURE, m->files[f].figure, m);
+    call_gives(*s, *m, call_of(DW_READ, p, f, 0), DW_FIGURE, m->figures[f], m);
     call_gives(*s, *m, call_of(DW_TESTLOCK, p, f, 0), DW_YES, 0, m);
     call_gives(*s, *m, call_of(DW_TESTLOCK, (p + 1) % DW_PROCESSES, f, 0), DW_NO, 0, m);
 }
@@ -460,21 +458,21 @@ static void holder_calls(const dw_setup *s, const dw_store *m, uint32_t f)
 /* The calls of a process on file f while it is unlocked; file x is locked by that process, for COPY. */
 static void other_calls(const dw_setup *s, const dw_store *m, uint32_t f)
 {
-    uint32_t x = (f + 1) % DW_FILES, p = m->files[x].holder - 1;
+    uint32_t x = (f + 1) % DW_FILES, p = m->holders[x] - 1;
     dw_store now = *m, next;
 
-    now.files[f].holder = 0;
-    now.files[f].readers[p] = 0;
+    now.holders[f] = 0;
+    now.marks[DW_MARK(f, p)] = 0;
     next = now;
-    next.files[f].readers[p] = 1;
+    next.marks[DW_MARK(f, p)] = 1;
     call_gives(*s, now, call_of(DW_OPEN, p, f, 0), DW_NOTHING, 0, &next);
     call_gives(*s, now, call_of(DW_READ, p, f, 0), DW_NOTHING, 0, &now);
     now = next;
-    call_gives(*s, now, call_of(DW_READ, p, f, 0), DW_FIGURE, now.files[f].figure, &now);
-    next.files[f].holder = p + 1;
+    call_gives(*s, now, call_of(DW_READ, p, f, 0), DW_FIGURE, now.figures[f], &now);
+    next.holders[f] = p + 1;
     call_gives(*s, now, call_of(DW_LOCK, p, f, 0), DW_NOTHING, 0, &next);
     next = now;
-    next.files[x].figure = now.files[f].figure;
+    next.figures[x] = now.figures[f];
     call_gives(*s, now, call_of(DW_COPY, p, f, x), DW_NOTHING, 0, &next);
 }
 
@@ -495,14 +493,14 @@ static void refused_calls_change_nothing(void)
     dw_store m = blank_store();
 
     for (uint32_t f = 0; f < F; f++)
-        m.files[f].figure = 0x01010101u * (f + 1);
+        m.figures[f] = 0x01010101u * (f + 1);
     call_gives(s, m, call_of(0, P, F, 1), DW_REFUSED, 5, &m);
     call_gives(s, m, call_of(DW_READ, P, F, 1), DW_REFUSED, 6, &m);
     call_gives(s, m, call_of(DW_READ, P - 1, F, 1), DW_REFUSED, 7, &m);
     call_gives(s, m, call_of(DW_COPY, P - 1, F - 1, F), DW_REFUSED, 7, &m);
     call_gives(s, m, call_of(DW_READ, P - 1, F - 1, 1), DW_REFUSED, 8, &m);
     call_gives(s, m, call_of(DW_COPY, P - 1, F - 1, F - 1), DW_REFUSED, 9, &m);
-    m.files[F].figure = 1;
+    m.figures[F] = 1;
     call_gives(s, m, call_of(0, P, F, 1), DW_REFUSED, 16, &m);
     s.processes = 0;
     call_gives(s, m, call_of(0, P, F, 1), DW_REFUSED, 15, &m);
@@ -614,7 +612,7 @@ static void refused_lists_write_nothing(void)
     list_is_refused(s, m, 9, 64, 10);
     list_is_refused(s, m, (DW_CALLS + 1) * DW_CALL_WIDTH, CALLS_LEN, 10);
     list_is_refused(s, m, 8, 3, 11);
-    m.files[3].readers[5] = 2;
+    m.marks[DW_MARK(3, 5)] = 2;
     list_is_refused(s, m, 9, 0, 16);
     s.files = 0;
     list_is_refused(s, m, 9, 0, 15);

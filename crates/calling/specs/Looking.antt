@@ -4,7 +4,7 @@ use mathlib.Core.List.{List}
 use lib.ListN.{getD}
 use Rattle.rules.specs.Sizes.{mostClasses}
 use Rattle.rules.specs.Setups.{hasR, hasW}
-use Rattle.rules.specs.Stores.{hasOpen}
+use Rattle.rules.specs.Stores.{isOpen}
 use Rattle.rules.specs.Calls.{processOf, fileOf, changeable}
 use Rattle.rules.specs.declared.Sheet.{Sheet}
 use Rattle.rules.specs.declared.Call.{Call}
@@ -18,7 +18,7 @@ looksOn rights desk class call source target =
     record {
       r = hasR (rightIn rights desk class (processOf call) (fileOf call));
       w = hasW (rightIn rights desk class (processOf call) (changeable call));
-      opened = hasOpen source (processOf call);
+      opened = isOpen (source .mark);
       holder = source .holder;
       content = source .content;
       target = target;

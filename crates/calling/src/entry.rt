@@ -8,16 +8,18 @@ use judging::rights::right_of;
 use rules::Answer;
 use rules::Call;
 use rules::Called;
+use rules::Content;
 use rules::Decoded;
 use rules::Looks;
+use rules::PROCESSES;
 use rules::Setup;
 use rules::Sheet;
 use rules::Store;
 ghost use mathlib.Core.Path.{_≡_};
 ghost use Prim.Native.Nat.{_<_};
-ghost use Rattle.rules.specs.Sizes.{mostProcesses};
-ghost use Rattle.rules.specs.Stores.{hasOpen};
-ghost use Rattle.rules.specs.Calls.{numbers, processOf, fileOf, changeable};
+ghost use Rattle.rules.specs.Sizes.{mostProcesses, mostFiles};
+ghost use Rattle.rules.specs.Stores.{isOpen};
+ghost use Rattle.rules.specs.Calls.{numbers, processOf, fileOf, changeable, answerTo, nextStore};
 ghost use Rattle.rules.specs.Answers.{numbersOf};
 ghost use Rattle.calling.specs.Looking.{looksOn};
 ghost use Rattle.rules.specs.Entries.{called};
@@ -68,32 +70,39 @@ pub fn changeable(call: Call) -> u32
     }
 }
 
-fn has_open(sheet: Sheet, p: u32) -> bool
-    requires { ⌜ p < mostProcesses ⌝ }
-    ensures { λ r. ⌜ r ≡ hasOpen sheet p ⌝ }
+fn is_open(mark: u8) -> bool
+    ensures { λ r. ⌜ r ≡ isOpen mark ⌝ }
 {
-    let i = p as usize;
-    sheet.readers[i] == 1
+    mark == 1
+}
+
+pub fn sheet_of(holder: u32, content: Content, mark: u8) -> Sheet
+    ensures { λ r. ⌜ r ≡ record { holder = holder; content = content; mark = mark } ⌝ }
+{
+    Sheet {
+        holder,
+        content,
+        mark,
+    }
 }
 
 // What a call looks at; the tables are lent, so that none is copied for a call.
-pub fn look_on(
-    rights: &[u8],
-    desk: &[u8],
-    class: &[u8],
+pub fn look_on<'a>(
+    rights: &'a [u8],
+    desk: &'a [u8],
+    class: &'a [u8],
     call: Call,
     source: Sheet,
     target: Sheet,
 ) -> Looks
-    requires { ⌜ processOf call < mostProcesses ⌝ }
     ensures { λ r. ⌜ r ≡ looksOn (now (rights .entry)) (now (desk .entry)) (now (class .entry)) call source target ⌝ }
 {
-    let p = process_of(call);
+    let p = process_of(call) as usize;
     let f = file_of(call) as usize;
     let x = changeable(call) as usize;
-    let r = has_r(right_of(rights, desk, class, p as usize, f));
-    let w = has_w(right_of(rights, desk, class, p as usize, x));
-    let opened = has_open(source, p);
+    let r = has_r(right_of(rights, desk, class, p, f));
+    let w = has_w(right_of(rights, desk, class, p, x));
+    let opened = is_open(source.mark);
     let holder = source.holder;
     let content = source.content;
     Looks {
@@ -103,6 +112,33 @@ pub fn look_on(
         holder,
         content,
         target,
+    }
+}
+
+// A call that exists, on a setup and a store that were judged. It changes one local: each call writes one sheet of it.
+fn run_one(setup: Setup, store: Store, call: Call) -> Called
+    requires { ⌜ (processOf call < mostProcesses) × (fileOf call < mostFiles) × (changeable call < mostFiles) ⌝ }
+    ensures { λ r. ⌜ r ≡ record { answer = answerTo setup store call; store = nextStore setup store call } ⌝ }
+{
+    let mut next = store;
+    let p = process_of(call) as usize;
+    let f = file_of(call) as usize;
+    let x = changeable(call) as usize;
+    let at_f = f * PROCESSES + p;
+    let at_x = x * PROCESSES + p;
+    let from = sheet_of(next.holders[f], next.contents[f], next.marks[at_f]);
+    let onto = sheet_of(next.holders[x], next.contents[x], next.marks[at_x]);
+    let look = look_on(&setup.rights, &setup.desk, &setup.class, call, from, onto);
+    let turn = step(call, look);
+    let answer = turn.answer;
+    let sheet = turn.sheet;
+    let content = sheet.content;
+    next.holders[x] = sheet.holder;
+    next.contents[x] = content;
+    next.marks[at_x] = sheet.mark;
+    Called {
+        answer,
+        store: next,
     }
 }
 
@@ -116,30 +152,12 @@ pub fn call(setup: Setup, store: Store, op: u32, p: u32, f: u32, x: u32) -> Call
         let answer = Answer::Refused(refusal);
         return Called { answer, store };
     }
-    let rights = setup.rights;
-    let desk = setup.desk;
-    let class = setup.class;
     let decoded = decode(setup, op, p, f, x);
     match decoded {
         Decoded::Not(number) => {
             let answer = Answer::Refused(number);
             Called { answer, store }
         }
-        Decoded::Is(call) => {
-            let f = file_of(call) as usize;
-            let x = changeable(call) as usize;
-            let mut next = store;
-            let source = next.files[f];
-            let target = next.files[x];
-            let look = look_on(&rights, &desk, &class, call, source, target);
-            let turn = step(call, look);
-            let answer = turn.answer;
-            let sheet = turn.sheet;
-            next.files[x] = sheet;
-            Called {
-                answer,
-                store: next,
-            }
-        }
+        Decoded::Is(call) => run_one(setup, store, call),
     }
 }

@@ -51,13 +51,11 @@ fn with_content(sheet: Sheet, content: Content) -> Sheet
     next
 }
 
-fn with_mark(sheet: Sheet, p: u32, mark: u8) -> Sheet
-    requires { ⌜ p < mostProcesses ⌝ }
-    ensures { λ r. ⌜ r ≡ withMark sheet p mark ⌝ }
+fn with_mark(sheet: Sheet, mark: u8) -> Sheet
+    ensures { λ r. ⌜ r ≡ withMark sheet mark ⌝ }
 {
-    let i = p as usize;
     let mut next = sheet;
-    next.readers[i] = mark;
+    next.mark = mark;
     next
 }
 
@@ -90,12 +88,11 @@ fn yes_or_no(held: bool) -> Answer
 }
 
 // A turn that answers nothing.
-fn quiet(file: u32, sheet: Sheet) -> Turn
-    ensures { λ r. ⌜ r ≡ quiet file sheet ⌝ }
+fn quiet(sheet: Sheet) -> Turn
+    ensures { λ r. ⌜ r ≡ quiet sheet ⌝ }
 {
     Turn {
         answer: Answer::Nothing,
-        file,
         sheet,
     }
 }
@@ -111,11 +108,10 @@ fn read(look: Looks, p: u32, f: u32) -> Turn
         let answer = read_of(look.content);
         Turn {
             answer,
-            file: f,
             sheet: target,
         }
     } else {
-        quiet(f, target)
+        quiet(target)
     }
 }
 
@@ -125,9 +121,9 @@ fn write(look: Looks, p: u32, f: u32, x: u32) -> Turn
 {
     let target = look.target;
     if look.w & is_held_by(target.holder, p) {
-        quiet(f, with_content(target, written_to(target.content, x)))
+        quiet(with_content(target, written_to(target.content, x)))
     } else {
-        quiet(f, target)
+        quiet(target)
     }
 }
 
@@ -137,9 +133,9 @@ fn lock(look: Looks, p: u32, f: u32) -> Turn
 {
     let target = look.target;
     if look.w & is_free(target.holder) {
-        quiet(f, with_holder(target, p + 1))
+        quiet(with_holder(target, p + 1))
     } else {
-        quiet(f, target)
+        quiet(target)
     }
 }
 
@@ -149,9 +145,9 @@ fn unlock(look: Looks, p: u32, f: u32) -> Turn
 {
     let target = look.target;
     if look.w & is_held_by(target.holder, p) {
-        quiet(f, with_holder(target, 0))
+        quiet(with_holder(target, 0))
     } else {
-        quiet(f, target)
+        quiet(target)
     }
 }
 
@@ -161,9 +157,9 @@ fn open(look: Looks, p: u32, f: u32) -> Turn
 {
     let target = look.target;
     if look.r & is_free(look.holder) {
-        quiet(f, with_mark(target, p, 1))
+        quiet(with_mark(target, 1))
     } else {
-        quiet(f, target)
+        quiet(target)
     }
 }
 
@@ -173,9 +169,9 @@ fn close(look: Looks, p: u32, f: u32) -> Turn
 {
     let target = look.target;
     if look.r & look.opened {
-        quiet(f, with_mark(target, p, 0))
+        quiet(with_mark(target, 0))
     } else {
-        quiet(f, target)
+        quiet(target)
     }
 }
 
@@ -188,11 +184,10 @@ fn testlock(look: Looks, p: u32, f: u32) -> Turn
         let answer = yes_or_no(is_held_by(look.holder, p));
         Turn {
             answer,
-            file: f,
             sheet: target,
         }
     } else {
-        quiet(f, target)
+        quiet(target)
     }
 }
 
@@ -202,12 +197,9 @@ fn copy(look: Looks, p: u32, f: u32, x: u32) -> Turn
 {
     let target = look.target;
     if look.r & look.w & look.opened & free_for(look.holder, p) & is_held_by(target.holder, p) {
-        quiet(
-            x,
-            with_content(target, copied_to(target.content, look.content)),
-        )
+        quiet(with_content(target, copied_to(target.content, look.content)))
     } else {
-        quiet(x, target)
+        quiet(target)
     }
 }
 

@@ -9,16 +9,18 @@ use rules::DESKS;
 use rules::FILES;
 use rules::GivenStore;
 use rules::LEAST;
+use rules::MARKS;
 use rules::PROCESSES;
 use rules::Setup;
-use rules::Sheet;
 use rules::Store;
 ghost use mathlib.Core.Path.{_≡_};
-ghost use Prim.Native.Nat.{_<_};
+ghost use mathlib.Core.Bool.{cond};
+ghost use Prim.Native.Nat.{_+_, _*_, _<_};
+ghost use lib.Dec.{ltb};
 ghost use lib.ListN.{length, getD};
-ghost use Rattle.rules.specs.Sizes.{mostDesks, within, every};
-ghost use Rattle.rules.specs.Setups.{withinSizes, entryFits, classesAt, rowFits, rightsFit, desksFit, classesFit, accepted};
-ghost use Rattle.rules.specs.Stores.{isBlank, blankSheet, freshStore, misfit, holderFits, markFits, marksFit, sheetIsBlank, sheetFits, fits};
+ghost use Rattle.rules.specs.Sizes.{mostDesks, mostClasses, mostFiles, mostRights, mostMarks, within, every};
+ghost use Rattle.rules.specs.Setups.{rightBoth, withinSizes, entryFits, rightsFit, desksFit, classesFit, accepted};
+ghost use Rattle.rules.specs.Stores.{isBlank, markAt, storeOf, holderFits, markFits, marksFit, fileIsBlank, fileFits, fits};
 ghost use Rattle.judging.specs.Tables.{tables};
 ghost use Rattle.rules.specs.Refusals.{judgeRefusal};
 ghost use Rattle.rules.specs.Entries.{freshness};
@@ -63,28 +65,24 @@ pub fn entries_fit(entries: &[u8], count: usize, bound: usize) -> bool
 }
 
 // How many rights of a desk's row lie before the counts.
-fn classes_at(setup: Setup, desk: usize) -> usize
-    ensures { λ r. ⌜ r ≡ classesAt setup desk ⌝ }
+fn classes_at(desks: u32, classes: u32, desk: usize) -> usize
+    ensures { λ r. ⌜ r ≡ cond (ltb desk desks) classes 0 ⌝ }
 {
-    if desk < setup.desks as usize {
-        setup.classes as usize
+    if desk < desks as usize {
+        classes as usize
     } else {
         0
     }
 }
 
-fn row_fits(setup: Setup, desk: usize) -> bool
-    requires { ⌜ desk < mostDesks ⌝ }
-    ensures { λ r. ⌜ r ≡ rowFits setup desk ⌝ }
+// The row of a desk, of which so many rights lie before the counts; the whole table is lent.
+fn row_fits(rights: &[u8], desk: usize, classes: usize) -> bool
+    requires { ⌜ (desk < mostDesks) × (length (now rights) ≡ mostRights) ⌝ }
+    ensures { λ r. ⌜ r ≡ every mostClasses (λ t. entryFits classes (rightBoth + 1) t (getD (now (rights .entry)) (desk * mostClasses + t) 0)) ⌝ }
 {
-    let rights = setup.rights;
     let start = desk * CLASSES;
     let end = start + CLASSES;
-    entries_fit(
-        &rights[start..end],
-        classes_at(setup, desk),
-        BOTH as usize + 1,
-    )
+    entries_fit(&rights[start..end], classes, BOTH as usize + 1)
 }
 
 fn rights_fit(setup: Setup) -> bool
@@ -92,7 +90,8 @@ fn rights_fit(setup: Setup) -> bool
 {
     let mut desk = 0;
     while desk < DESKS {
-        if !row_fits(setup, desk) {
+        let classes = classes_at(setup.desks, setup.classes, desk);
+        if !row_fits(&setup.rights, desk, classes) {
             return false;
         }
         desk += 1;
@@ -103,18 +102,16 @@ fn rights_fit(setup: Setup) -> bool
 fn desks_fit(setup: Setup) -> bool
     ensures { λ r. ⌜ r ≡ desksFit setup ⌝ }
 {
-    let desk = setup.desk;
-    entries_fit(&desk, setup.processes as usize, setup.desks as usize)
+    entries_fit(&setup.desk, setup.processes as usize, setup.desks as usize)
 }
 
 fn classes_fit(setup: Setup) -> bool
     ensures { λ r. ⌜ r ≡ classesFit setup ⌝ }
 {
-    let class = setup.class;
-    entries_fit(&class, setup.files as usize, setup.classes as usize)
+    entries_fit(&setup.class, setup.files as usize, setup.classes as usize)
 }
 
-fn accepted(setup: Setup) -> bool
+pub fn accepted(setup: Setup) -> bool
     ensures { λ r. ⌜ r ≡ accepted setup ⌝ }
 {
     within_sizes(setup.desks, setup.classes, setup.processes, setup.files)
@@ -123,26 +120,15 @@ fn accepted(setup: Setup) -> bool
         & classes_fit(setup)
 }
 
-fn blank_sheet() -> Sheet
-    ensures { λ r. ⌜ r ≡ blankSheet ⌝ }
-{
-    Sheet {
-        holder: 0,
-        content: Content { figure: 0 },
-        readers: [0u8; PROCESSES],
-    }
-}
-
 fn is_blank(content: Content) -> bool
     ensures { λ r. ⌜ r ≡ isBlank content ⌝ }
 {
     content.figure == 0
 }
 
-fn holder_fits(setup: Setup, f: usize, sheet: Sheet) -> bool
-    ensures { λ r. ⌜ r ≡ holderFits setup f sheet ⌝ }
+fn holder_fits(setup: Setup, f: usize, holder: u32) -> bool
+    ensures { λ r. ⌜ r ≡ holderFits setup f holder ⌝ }
 {
-    let holder = sheet.holder;
     if holder == 0 {
         return true;
     }
@@ -154,11 +140,11 @@ fn holder_fits(setup: Setup, f: usize, sheet: Sheet) -> bool
     }
 }
 
-fn mark_fits(
+fn mark_fits<'a>(
     processes: usize,
-    rights: &[u8],
-    desk: &[u8],
-    class: &[u8],
+    rights: &'a [u8],
+    desk: &'a [u8],
+    class: &'a [u8],
     f: usize,
     p: usize,
     mark: u8,
@@ -178,16 +164,24 @@ fn mark_fits(
     }
 }
 
-fn marks_fit(setup: Setup, f: usize, sheet: Sheet) -> bool
-    ensures { λ r. ⌜ r ≡ marksFit setup f sheet ⌝ }
+// The marks of one file; those of all files are lent.
+fn marks_fit(setup: Setup, f: usize, marks: &[u8]) -> bool
+    requires { ⌜ (f < mostFiles) × (length (now marks) ≡ mostMarks) ⌝ }
+    ensures { λ r. ⌜ r ≡ marksFit setup f (λ p. getD (now (marks .entry)) (markAt f p) 0) ⌝ }
 {
-    let rights = setup.rights;
-    let desk = setup.desk;
-    let class = setup.class;
     let processes = setup.processes as usize;
+    let start = f * PROCESSES;
     let mut p = 0;
     while p < PROCESSES {
-        if !mark_fits(processes, &rights, &desk, &class, f, p, sheet.readers[p]) {
+        if !mark_fits(
+            processes,
+            &setup.rights,
+            &setup.desk,
+            &setup.class,
+            f,
+            p,
+            marks[start + p],
+        ) {
             return false;
         }
         p += 1;
@@ -195,31 +189,34 @@ fn marks_fit(setup: Setup, f: usize, sheet: Sheet) -> bool
     true
 }
 
-// A sheet past the files is unlocked, unopened and blank.
-fn sheet_is_blank(sheet: Sheet) -> bool
-    ensures { λ r. ⌜ r ≡ sheetIsBlank sheet ⌝ }
+// A file past the files is unlocked, unopened and blank.
+fn file_is_blank(f: usize, holder: u32, content: Content, marks: &[u8]) -> bool
+    requires { ⌜ (f < mostFiles) × (length (now marks) ≡ mostMarks) ⌝ }
+    ensures { λ r. ⌜ r ≡ fileIsBlank holder content (λ p. getD (now (marks .entry)) (markAt f p) 0) ⌝ }
 {
-    if sheet.holder != 0 {
+    if holder != 0 {
         return false;
     }
-    let readers = sheet.readers;
+    let start = f * PROCESSES;
+    let end = start + PROCESSES;
     // Past a count of 0 every entry is 0.
-    if !entries_fit(&readers, 0, 0) {
+    if !entries_fit(&marks[start..end], 0, 0) {
         return false;
     }
-    is_blank(sheet.content)
+    is_blank(content)
 }
 
-fn sheet_fits(setup: Setup, f: usize, sheet: Sheet) -> bool
-    ensures { λ r. ⌜ r ≡ sheetFits setup f sheet ⌝ }
+fn file_fits(setup: Setup, f: usize, holder: u32, content: Content, marks: &[u8]) -> bool
+    requires { ⌜ (f < mostFiles) × (length (now marks) ≡ mostMarks) ⌝ }
+    ensures { λ r. ⌜ r ≡ fileFits setup f holder content (λ p. getD (now (marks .entry)) (markAt f p) 0) ⌝ }
 {
     if setup.files as usize <= f {
-        return sheet_is_blank(sheet);
+        return file_is_blank(f, holder, content, marks);
     }
-    if !holder_fits(setup, f, sheet) {
+    if !holder_fits(setup, f, holder) {
         return false;
     }
-    marks_fit(setup, f, sheet)
+    marks_fit(setup, f, marks)
 }
 
 fn store_fits(setup: Setup, store: Store) -> bool
@@ -227,7 +224,9 @@ fn store_fits(setup: Setup, store: Store) -> bool
 {
     let mut f = 0;
     while f < FILES {
-        if !sheet_fits(setup, f, store.files[f]) {
+        let holder = store.holders[f];
+        let content = store.contents[f];
+        if !file_fits(setup, f, holder, content, &store.marks) {
             return false;
         }
         f += 1;
@@ -248,25 +247,14 @@ pub fn judge(setup: Setup, store: Store) -> u32
     0
 }
 
-fn fresh_store() -> Store
-    ensures { λ r. ⌜ r ≡ freshStore ⌝ }
+// Nothing locked, all figures 0, and one mark throughout.
+fn store_of(mark: u8) -> Store
+    ensures { λ r. ⌜ r ≡ storeOf mark ⌝ }
 {
     Store {
-        files: [blank_sheet(); FILES],
-    }
-}
-
-// A mark of 2 is neither open nor shut, so this store fits no setup.
-fn misfit() -> Store
-    ensures { λ r. ⌜ r ≡ misfit ⌝ }
-{
-    let sheet = Sheet {
-        holder: 0,
-        content: Content { figure: 0 },
-        readers: [2u8; PROCESSES],
-    };
-    Store {
-        files: [sheet; FILES],
+        holders: [0u32; FILES],
+        contents: [Content { figure: 0 }; FILES],
+        marks: [mark; MARKS],
     }
 }
 
@@ -275,9 +263,10 @@ pub fn fresh(setup: Setup) -> GivenStore
     ensures { λ r. ⌜ r ≡ freshness setup ⌝ }
 {
     if !accepted(setup) {
-        let store = misfit();
+        // A mark of 2 is neither open nor shut, so this store fits no setup.
+        let store = store_of(2);
         return GivenStore { refusal: 15, store };
     }
-    let store = fresh_store();
+    let store = store_of(0);
     GivenStore { refusal: 0, store }
 }

@@ -18,7 +18,7 @@ pub fn entry_at(entries: &[u8], at: usize) -> u8
 }
 
 // From a setup's three tables, lent, so that none is copied for a look at one entry.
-pub fn right_of(rights: &[u8], desk: &[u8], class: &[u8], p: usize, f: usize) -> u8
+pub fn right_of<'a>(rights: &'a [u8], desk: &'a [u8], class: &'a [u8], p: usize, f: usize) -> u8
     ensures { λ r. ⌜ r ≡ getD (now (rights .entry)) (getD (now (desk .entry)) p 0 * mostClasses + getD (now (class .entry)) f 0) 0 ⌝ }
 {
     let d = entry_at(desk, p) as usize;
@@ -41,8 +41,5 @@ pub fn has_w(right: u8) -> bool
 pub fn may_write(setup: Setup, p: usize, f: usize) -> bool
     ensures { λ r. ⌜ r ≡ mayWrite setup p f ⌝ }
 {
-    let rights = setup.rights;
-    let desk = setup.desk;
-    let class = setup.class;
-    has_w(right_of(&rights, &desk, &class, p, f))
+    has_w(right_of(&setup.rights, &setup.desk, &setup.class, p, f))
 }

@@ -113,7 +113,7 @@ module _ (s : Setup) (a : accepted s ≡ true) where
   unfolding answersWhere
   answers-called m f n rest = rw (called-judged s m n (judgeRefusal-iff s m .1 (a, f)))
 
-pub end-fits : (s : Setup) (m : Store) (acts : List Numbers) → fits s m ≡ true → fits s (endOf s m acts) ≡ true
+pub end-fits : (s : Setup) → accepted s ≡ true → (m : Store) (acts : List Numbers) → fits s m ≡ true → fits s (endOf s m acts) ≡ true
 unfolding after
-end-fits s m [] f = f
-end-fits s m (n ∷ acts) f = end-fits s (ran s m n .store) acts (ran-fits s m n f)
+end-fits s a m [] f = f
+end-fits s a m (n ∷ acts) f = end-fits s a (ran s m n .store) acts (ran-fits s m n a f)

@@ -8,10 +8,13 @@ use calling::decoding::decode;
 use calling::entry::changeable;
 use calling::entry::file_of;
 use calling::entry::look_on;
+use calling::entry::process_of;
+use calling::entry::sheet_of;
 use calling::stepping::step;
 use judging::fitting::judge;
 use rules::Answer;
 use rules::Decoded;
+use rules::PROCESSES;
 use rules::Setup;
 use rules::Store;
 ghost use mathlib.Core.Path.{_≡_};
@@ -79,30 +82,31 @@ fn run_all(setup: Setup, store: Store, calls: &[u32], answers: &mut [u32]) -> St
     ensures ends { λ r. ⌜ r ≡ endOf setup store (callsOf (now (calls .entry))) ⌝ }
     ensures answered { λ _. ⌜ now (answers .exit) ≡ inNumbers (answersOver setup store (callsOf (now (calls .entry)))) ++ drop (callsIn (now (calls .entry)) * answerWidth) (now (answers .entry)) ⌝ }
 {
-    let rights = setup.rights;
-    let desk = setup.desk;
-    let class = setup.class;
-    let count = calls.len() / CALL_WIDTH;
     let mut next = store;
     let mut i = 0;
-    while i < count {
+    while i < calls.len() / CALL_WIDTH {
         let after = i + 1;
-        let decoded = decode_at(setup, calls, i);
-        match decoded {
+        match decode_at(setup, calls, i) {
             Decoded::Not(number) => {
                 put(answers, i, Answer::Refused(number));
                 i = after; // a refused call gets its answer, and the list goes on
             }
             Decoded::Is(call) => {
+                let p = process_of(call) as usize;
                 let f = file_of(call) as usize;
                 let x = changeable(call) as usize;
-                let source = next.files[f];
-                let target = next.files[x];
-                let look = look_on(&rights, &desk, &class, call, source, target);
+                let at_f = f * PROCESSES + p;
+                let at_x = x * PROCESSES + p;
+                let from = sheet_of(next.holders[f], next.contents[f], next.marks[at_f]);
+                let onto = sheet_of(next.holders[x], next.contents[x], next.marks[at_x]);
+                let look = look_on(&setup.rights, &setup.desk, &setup.class, call, from, onto);
                 let turn = step(call, look);
                 let answer = turn.answer;
                 let sheet = turn.sheet;
-                next.files[x] = sheet;
+                let content = sheet.content;
+                next.holders[x] = sheet.holder;
+                next.contents[x] = content;
+                next.marks[at_x] = sheet.mark;
                 put(answers, i, answer);
                 i = after;
             }

@@ -27,8 +27,8 @@ use Rattle.rules.proofs.Lists.{by-test, cond-holds}
 use Rattle.rules.proofs.Sizes.{length-table, getD-table, table-is}
 use Rattle.rules.proofs.Setups.{Entries, classesAt-before, classesAt-past, accepted-iff, accepted-sizes, deskOf-lt, classOf-lt, rightOf-lt, rightOf-past, deskOf-past, classOf-past}
 use Rattle.rules.proofs.Stores.{freshStore-fits}
-use Rattle.rules.proofs.Calls.{nextStore-fits, nextStore-other, nextStore-length, nextStore-readers}
-use Rattle.rules.proofs.Refusals.{callRefusal-iff, callRefusal-judged, numbers-exist, setupRefusal-iff}
+use Rattle.rules.proofs.Calls.{nextStore-fits, nextStore-other}
+use Rattle.rules.proofs.Refusals.{judgeRefusal-iff, callRefusal-iff, callRefusal-judged, numbers-exist, setupRefusal-iff}
 
 -- on a setup and a store that nothing is held against, a call does what it does on those that were judged before
 pub called-judged : (s : Setup) (m : Store) (n : Numbers) → judgeRefusal s m ≡ 0 → called s m n ≡ ran s m n
@@ -51,45 +51,30 @@ module _ (s : Setup) (m : Store) (n : Numbers) where
   unfolding called
   called-refused h = unless-refused (callRefusal s m n) _ _ h
 
-  -- every call changes at most one file, refused or not
-  outcome-other : (refusal g : ℕ) → g ≢ changeable (callOf n) → sheetOf (outcome s m n refusal .store) g ≡ sheetOf m g
-  outcome-other refusal g h =
-      outcome-holds (λ (x : Store). sheetOf x g ≡ sheetOf m g) s m n refusal refl (λ q. nextStore-other s m (callOf n) g h)
-
-  pub ran-other : (g : ℕ) → g ≢ changeable (callOf n) → sheetOf (ran s m n .store) g ≡ sheetOf m g
-  unfolding ran
-  ran-other = outcome-other (numbersRefusal s n)
-
-  pub called-other : (g : ℕ) → g ≢ changeable (callOf n) → sheetOf (called s m n .store) g ≡ sheetOf m g
-  unfolding called
-  called-other = outcome-other (callRefusal s m n)
-
   -- numbers that no refusal is given for keep a store fitting
-  pub numbers-fit : fits s m ≡ true → numbersRefusal s n ≡ 0 → fits s (nextStore s m (callOf n)) ≡ true
-  numbers-fit e q = nextStore-fits s m (callOf n) (numbers-exist s n q) e
+  pub numbers-fit : accepted s ≡ true → fits s m ≡ true → numbersRefusal s n ≡ 0 → fits s (nextStore s m (callOf n)) ≡ true
+  numbers-fit a e q = nextStore-fits s m (callOf n) a (numbers-exist s n q) e
 
   -- "Every accepted call keeps a store fitting", and a refused one leaves it as it is
-  pub ran-fits : fits s m ≡ true → fits s (ran s m n .store) ≡ true
+  pub ran-fits : accepted s ≡ true → fits s m ≡ true → fits s (ran s m n .store) ≡ true
   unfolding ran
-  ran-fits e = outcome-holds (λ (x : Store). fits s x ≡ true) s m n (numbersRefusal s n) e (numbers-fit e)
+  ran-fits a e = outcome-holds (λ (x : Store). fits s x ≡ true) s m n (numbersRefusal s n) e (numbers-fit a e)
 
   pub called-fits : fits s m ≡ true → fits s (called s m n .store) ≡ true
   unfolding called
   called-fits e =
-      outcome-holds (λ (x : Store). fits s x ≡ true) s m n (callRefusal s m n) e (λ q. numbers-fit e (callRefusal-iff s m n .0 q .1))
+      outcome-holds (λ (x : Store). fits s x ≡ true) s m n (callRefusal s m n) e
+      (λ q. let h = callRefusal-iff s m n .0 q in numbers-fit (judgeRefusal-iff s m .0 (h .0) .0) e (h .1))
 
-  -- a call keeps the number of files, and each file's number of marks
-  pub ran-length : length (ran s m n .store .files) ≡ length (m .files)
-  unfolding ran
-  ran-length =
-      outcome-holds (λ (x : Store). length (x .files) ≡ length (m .files)) s m n (numbersRefusal s n) refl
-      (λ q. nextStore-length s m (callOf n))
-
-  pub ran-readers : (g : ℕ) → length (sheetOf (ran s m n .store) g .readers) ≡ length (sheetOf m g .readers)
-  unfolding ran
-  ran-readers g =
-      outcome-holds (λ (x : Store). length (sheetOf x g .readers) ≡ length (sheetOf m g .readers)) s m n (numbersRefusal s n) refl
-      (λ q. nextStore-readers s m (callOf n) g)
+  -- every call changes at most one file, refused or not, whoever looks
+  pub called-other : (q g : ℕ) → q < mostProcesses → g ≢ changeable (callOf n) → sheetOf (called s m n .store) q g ≡ sheetOf m q g
+  unfolding called
+  called-other q g l h =
+      outcome-holds (λ (x : Store). sheetOf x q g ≡ sheetOf m q g) s m n (callRefusal s m n) refl
+      (λ e.
+      let (judged, sound) = callRefusal-iff s m n .0 e in
+      let most = accepted-sizes s (judgeRefusal-iff s m .0 judged .0) .of-processes .high in
+      nextStore-other s m (callOf n) q g (omega (arith, numbers-exist s n sound .process, most)) l h)
 
 -- the three runs of a setup have the lengths that its type gives them
 pub record Shaped (s : Setup) : Type 0 where

@@ -2,9 +2,9 @@
 use Prim.Native.Nat.{ℕ, _+_, _-_}
 use mathlib.Core.Bool.{Bool, _&&_, _||_, cond}
 use mathlib.Core.List.{List, [], _∷_}
-use lib.ListN.{getD, set}
+use lib.ListN.{getD}
 use Rattle.rules.specs.Setups.{mayRead, mayWrite}
-use Rattle.rules.specs.Stores.{isFree, isHeldBy, unlocked, lockedBy, hasOpen, sheetOf, withSheet}
+use Rattle.rules.specs.Stores.{isFree, isHeldBy, isOpen, holderOf, contentOf, markOf, sheetOf, unlocked, lockedBy, withSheet}
 use Rattle.rules.specs.declared.Setup.{Setup}
 use Rattle.rules.specs.declared.Content.{Content}
 use Rattle.rules.specs.declared.Sheet.{Sheet}
@@ -92,17 +92,21 @@ changeable (Copy p f x) = x
 abbrev pub freeFor : ℕ → ℕ → Bool
 freeFor holder p = isFree holder || isHeldBy holder p
 
+-- the sheet of the file that a call can change, as its process meets it
+abbrev pub targetOf : Store → Call → Sheet
+targetOf m call = sheetOf m (processOf call) (changeable call)
+
 -- what a call looks at: R on f's class and W on the class of the file that it can change; whether p has f open, the holder
--- and the content of f; and the sheet of the file that it can change, the target
+-- and the content of f; and p's sheet of the file that it can change, the target
 abbrev pub looksAt : Setup → Store → Call → Looks
 looksAt s m call =
     record {
       r = mayRead s (processOf call) (fileOf call);
       w = mayWrite s (processOf call) (changeable call);
-      opened = hasOpen (sheetOf m (fileOf call)) (processOf call);
-      holder = sheetOf m (fileOf call) .holder;
-      content = sheetOf m (fileOf call) .content;
-      target = sheetOf m (changeable call);
+      opened = isOpen (markOf m (fileOf call) (processOf call));
+      holder = holderOf m (fileOf call);
+      content = contentOf m (fileOf call);
+      target = targetOf m call;
     }
 
 -- the column "Goes through when"
@@ -117,13 +121,13 @@ goes (Testlock p f) k = k .r && k .w
 goes (Copy p f x) k = k .r && k .w && k .opened && freeFor (k .holder) p && lockedBy (k .target) p
 
 abbrev pub withHolder : Sheet → ℕ → Sheet
-withHolder sheet h = record { holder = h; content = sheet .content; readers = sheet .readers }
+withHolder sheet h = record { holder = h; content = sheet .content; mark = sheet .mark }
 
 abbrev pub withContent : Sheet → Content → Sheet
-withContent sheet content = record { holder = sheet .holder; content = content; readers = sheet .readers }
+withContent sheet content = record { holder = sheet .holder; content = content; mark = sheet .mark }
 
-abbrev pub withMark : Sheet → ℕ → ℕ → Sheet
-withMark sheet p mark = record { holder = sheet .holder; content = sheet .content; readers = set (sheet .readers) p mark }
+abbrev pub withMark : Sheet → ℕ → Sheet
+withMark sheet mark = record { holder = sheet .holder; content = sheet .content; mark = mark }
 
 -- the column "Effect": the next sheet of the file that the call can change
 abbrev pub changes : Call → Content → Sheet → Sheet
@@ -131,8 +135,8 @@ changes (Read p f) content target = target
 changes (Write p f x) content target = withContent target (writtenTo (target .content) x)
 changes (Lock p f) content target = withHolder target (p + 1)
 changes (Unlock p f) content target = withHolder target 0
-changes (Open p f) content target = withMark target p 1
-changes (Close p f) content target = withMark target p 0
+changes (Open p f) content target = withMark target 1
+changes (Close p f) content target = withMark target 0
 changes (Testlock p f) content target = target
 changes (Copy p f x) content target = withContent target (copiedTo (target .content) content)
 
@@ -155,27 +159,26 @@ unfoldable pub goesThrough : Setup → Store → Call → Bool
 goesThrough s m call = goes call (looksAt s m call)
 
 unfoldable pub effect : Store → Call → Sheet
-effect m call = changes call (sheetOf m (fileOf call) .content) (sheetOf m (changeable call))
+effect m call = changes call (contentOf m (fileOf call)) (targetOf m call)
 
 unfoldable pub says : Store → Call → Answer
-says m call = tells call (sheetOf m (fileOf call) .holder) (sheetOf m (fileOf call) .content)
+says m call = tells call (holderOf m (fileOf call)) (contentOf m (fileOf call))
 
 -- a call that does not go through answers "nothing" and leaves the store as it is
 unfoldable pub answerTo : Setup → Store → Call → Answer
 answerTo s m call = cond (goesThrough s m call) (says m call) Nothing
 
 unfoldable pub nextStore : Setup → Store → Call → Store
-nextStore s m call = cond (goesThrough s m call) (withSheet m (changeable call) (effect m call)) m
+nextStore s m call = cond (goesThrough s m call) (withSheet m (processOf call) (changeable call) (effect m call)) m
 
--- For the step, which is no entry: a call's answer, the file that it can change, and that file's next sheet.
+-- For the step, which is no entry: a call's answer, and the next sheet of the file that it can change.
 unfoldable pub turnOf : Call → Looks → Turn
 turnOf call k =
     record {
       answer = cond (goes call k) (tells call (k .holder) (k .content)) Nothing;
-      file = changeable call;
       sheet = cond (goes call k) (changes call (k .content) (k .target)) (k .target);
     }
 
 -- a turn that answers nothing
-abbrev pub quiet : ℕ → Sheet → Turn
-quiet file sheet = record { answer = Nothing; file = file; sheet = sheet }
+abbrev pub quiet : Sheet → Turn
+quiet sheet = record { answer = Nothing; sheet = sheet }

@@ -22,6 +22,9 @@ mostFiles = 32
 abbrev pub mostRights : ℕ
 mostRights = mostDesks * mostClasses
 
+abbrev pub mostMarks : ℕ
+mostMarks = mostFiles * mostProcesses
+
 -- a count lies inside its sizes
 abbrev pub within : ℕ → ℕ → Bool
 within count most = leb least count && leb count most

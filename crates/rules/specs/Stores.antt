@@ -1,10 +1,9 @@
 -- 01, "Sizes": a store, the fresh store, and when a store fits its setup.
-use Prim.Native.Nat.{ℕ, _+_, _-_}
+use Prim.Native.Nat.{ℕ, _+_, _-_, _*_}
 use mathlib.Core.Bool.{Bool, _&&_, _||_, cond}
-use mathlib.Core.List.{[]}
 use lib.Dec.{ltb, eqb}
 use lib.ListN.{getD, set, replicate}
-use Rattle.rules.specs.Sizes.{mostProcesses, mostFiles, every}
+use Rattle.rules.specs.Sizes.{mostProcesses, mostFiles, mostMarks, every}
 use Rattle.rules.specs.Setups.{mayRead, mayWrite}
 use Rattle.rules.specs.declared.Setup.{Setup}
 use Rattle.rules.specs.declared.Content.{Content}
@@ -25,60 +24,75 @@ isFree holder = eqb holder 0
 abbrev pub isHeldBy : ℕ → ℕ → Bool
 isHeldBy holder p = eqb holder (p + 1)
 
+abbrev pub isOpen : ℕ → Bool
+isOpen mark = eqb mark 1
+
+-- "A store holds, for each file, who has it locked, who has it open, and one figure"
+abbrev pub holderOf : Store → ℕ → ℕ
+holderOf m f = getD (m .holders) f 0
+
+abbrev pub contentOf : Store → ℕ → Content
+contentOf m f = getD (m .contents) f blankContent
+
+-- the open marks lie file by file, one for each process
+abbrev pub markAt : ℕ → ℕ → ℕ
+markAt f p = f * mostProcesses + p
+
+abbrev pub markOf : Store → ℕ → ℕ → ℕ
+markOf m f p = getD (m .marks) (markAt f p) 0
+
+-- what process p meets of file f
+abbrev pub sheetOf : Store → ℕ → ℕ → Sheet
+sheetOf m p f = record { holder = holderOf m f; content = contentOf m f; mark = markOf m f p }
+
 abbrev pub unlocked : Sheet → Bool
 unlocked sheet = isFree (sheet .holder)
 
 abbrev pub lockedBy : Sheet → ℕ → Bool
 lockedBy sheet p = isHeldBy (sheet .holder) p
 
-abbrev pub markOf : Sheet → ℕ → ℕ
-markOf sheet p = getD (sheet .readers) p 0
+-- the store with another sheet for process p and file f
+abbrev pub withSheet : Store → ℕ → ℕ → Sheet → Store
+withSheet m p f sheet =
+    record {
+      holders = set (m .holders) f (sheet .holder);
+      contents = set (m .contents) f (sheet .content);
+      marks = set (m .marks) (markAt f p) (sheet .mark);
+    }
 
-abbrev pub hasOpen : Sheet → ℕ → Bool
-hasOpen sheet p = eqb (markOf sheet p) 1
-
--- nothing locked, nothing open, the figure 0
-abbrev pub blankSheet : Sheet
-blankSheet = record { holder = 0; content = blankContent; readers = replicate mostProcesses 0 }
-
--- what stands past the end of the files
-abbrev pub noSheet : Sheet
-noSheet = record { holder = 0; content = blankContent; readers = [] }
-
-abbrev pub sheetOf : Store → ℕ → Sheet
-sheetOf m f = getD (m .files) f noSheet
-
--- the store with another sheet for one file
-abbrev pub withSheet : Store → ℕ → Sheet → Store
-withSheet m f sheet = record { files = set (m .files) f sheet }
+-- nothing locked, all figures 0, and one mark throughout
+abbrev pub storeOf : ℕ → Store
+storeOf mark =
+    record { holders = replicate mostFiles 0; contents = replicate mostFiles blankContent; marks = replicate mostMarks mark }
 
 -- "A fresh store has nothing locked, nothing open, all figures 0"
 unfoldable pub freshStore : Store
-freshStore = record { files = replicate mostFiles blankSheet }
+freshStore = storeOf 0
 
 -- "each locked file is held by an existing process whose desk has W on the file's class"
-unfoldable pub holderFits : Setup → ℕ → Sheet → Bool
-holderFits s f sheet = unlocked sheet || ltb (sheet .holder - 1) (s .processes) && mayWrite s (sheet .holder - 1) f
+unfoldable pub holderFits : Setup → ℕ → ℕ → Bool
+holderFits s f holder = isFree holder || ltb (holder - 1) (s .processes) && mayWrite s (holder - 1) f
 
 -- "each process that has a file open exists and its desk has R on that class"; a mark is 0 or 1
 unfoldable pub markFits : Setup → ℕ → ℕ → ℕ → Bool
 markFits s f p mark = eqb mark 0 || eqb mark 1 && ltb p (s .processes) && mayRead s p f
 
--- each open mark of a file fits
-unfoldable pub marksFit : Setup → ℕ → Sheet → Bool
-marksFit s f sheet = every mostProcesses (λ p. markFits s f p (markOf sheet p))
+-- each open mark of a file fits; the marks are given by process
+unfoldable pub marksFit : Setup → ℕ → (ℕ → ℕ) → Bool
+marksFit s f marks = every mostProcesses (λ p. markFits s f p (marks p))
 
 -- "entries past F are unlocked, unopened and 0"
-unfoldable pub sheetIsBlank : Sheet → Bool
-sheetIsBlank sheet = unlocked sheet && every mostProcesses (λ p. eqb (markOf sheet p) 0) && isBlank (sheet .content)
+unfoldable pub fileIsBlank : ℕ → Content → (ℕ → ℕ) → Bool
+fileIsBlank holder content marks = isFree holder && every mostProcesses (λ p. eqb (marks p) 0) && isBlank content
 
 -- a file before F fits by its holder and its marks
-unfoldable pub sheetFits : Setup → ℕ → Sheet → Bool
-sheetFits s f sheet = cond (ltb f (s .files)) (holderFits s f sheet && marksFit s f sheet) (sheetIsBlank sheet)
+unfoldable pub fileFits : Setup → ℕ → ℕ → Content → (ℕ → ℕ) → Bool
+fileFits s f holder content marks =
+    cond (ltb f (s .files)) (holderFits s f holder && marksFit s f marks) (fileIsBlank holder content marks)
 
 unfoldable pub fits : Setup → Store → Bool
-fits s m = every mostFiles (λ f. sheetFits s f (sheetOf m f))
+fits s m = every mostFiles (λ f. fileFits s f (holderOf m f) (contentOf m f) (markOf m f))
 
 -- the stand-in that a refused fresh store hands back: its marks are neither 0 nor 1, so it fits no setup
 unfoldable pub misfit : Store
-misfit = record { files = replicate mostFiles (record { holder = 0; content = blankContent; readers = replicate mostProcesses 2 }) }
+misfit = storeOf 2

@@ -12,6 +12,8 @@ pub const PROCESSES: usize = 64;
 pub const FILES: usize = 32;
 // Rights lie at desk * CLASSES + class, whatever the counts are.
 pub const RIGHTS: usize = DESKS * CLASSES;
+// Open marks lie at file * PROCESSES + process, whatever the counts are.
+pub const MARKS: usize = FILES * PROCESSES;
 
 // A right is none, R, W or both.
 pub const R: u8 = 1;
@@ -38,19 +40,21 @@ pub struct Content {
     pub figure: u32,
 }
 
-// What a store knows of one file.
-#[repr(C)]
-pub struct Sheet {
-    // 0 for unlocked, else the process plus one.
-    pub holder: u32,
-    pub content: Content,
-    // 1 where the process has the file open, else 0.
-    pub readers: [u8; PROCESSES],
-}
-
+// For each file who has it locked, what it holds, and who has it open.
 #[repr(C)]
 pub struct Store {
-    pub files: [Sheet; FILES],
+    // 0 for unlocked, else the process plus one.
+    pub holders: [u32; FILES],
+    pub contents: [Content; FILES],
+    // 1 where the process has the file open, else 0.
+    pub marks: [u8; MARKS],
+}
+
+// What a process meets of one file: its holder, its content, and the process's own open mark.
+pub struct Sheet {
+    pub holder: u32,
+    pub content: Content,
+    pub mark: u8,
 }
 
 // A call of process p on file f; the third number is WRITE's figure, and the file that COPY writes.
@@ -94,7 +98,7 @@ pub struct GivenStore {
 }
 
 // What a call looks at: R on the class of its file f, W on the class of the file that it can change; of f whether the
-// process has it open, its holder and its content; and the sheet of the file that it can change.
+// process has it open, its holder and its content; and the process's sheet of the file that it can change.
 pub struct Looks {
     pub r: bool,
     pub w: bool,
@@ -104,10 +108,9 @@ pub struct Looks {
     pub target: Sheet,
 }
 
-// What a call answers, with the one file that it can change and that file's next sheet.
+// What a call answers, and the next sheet of the one file that it can change.
 pub struct Turn {
     pub answer: Answer,
-    pub file: u32,
     pub sheet: Sheet,
 }
 

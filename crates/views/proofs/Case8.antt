@@ -48,4 +48,4 @@ sides n = go (deskOfCall case8 n) refl
 
 pub desk-0-unheard : (m : Store) (acts : List Numbers) →
     answersTo (machine case8) 1 m acts ≡ answersTo (machine case8) 1 m (strikeDesk (machine case8) 0 acts)
-desk-0-unheard m acts = desk-unheard (unwound case8) closed 0 refl acts (λ n i. sides n) 1 refl m
+desk-0-unheard m acts = desk-unheard (unwound case8 case8-accepted) closed 0 refl acts (λ n i. sides n) 1 refl m

@@ -1,89 +1,72 @@
--- Each view is an equivalence, and what a new sheet of one file does to it.
+-- Each view is an equivalence, and what new sheets put in place do to it.
 -- Assumes nothing.
-use Prim.Native.Nat.{ℕ}
+use Prim.Native.Nat.{ℕ, _<_, _≤_}
+use native.Mathlib.Omega.{arith}
 use mathlib.Core.Path.{_≡_, refl, sym, _∙_}
-use mathlib.Core.Logic.{_≢_}
-use lib.ListN.{length, length-set}
-use lib.Seq.{getD-set-other}
+use lib.ListN.{length-set}
 use Rattle.secrecy.specs.Views.{Equivalence}
-use Rattle.rules.specs.Stores.{sheetOf, withSheet}
-use Rattle.rules.specs.Calls.{withHolder, withContent, withMark}
+use Rattle.rules.specs.Sizes.{mostProcesses}
+use Rattle.rules.specs.Stores.{blankContent, holderOf, contentOf, markAt, markOf, sheetOf, withSheet}
 use Rattle.rules.specs.declared.Setup.{Setup}
-use Rattle.rules.specs.declared.Content.{Content}
 use Rattle.rules.specs.declared.Sheet.{Sheet}
 use Rattle.rules.specs.declared.Store.{Store}
-use Rattle.rules.proofs.Stores.{withSheet-own}
-use Rattle.views.specs.Views.{SameTo, AlikeAt, Alike}
+use Rattle.rules.proofs.Stores.{markAt-apart, withSheet-own}
+use Rattle.views.specs.Views.{Sees, Alike}
 use Rattle.views.proofs.Tests.{both-set}
 
--- what a process sees of a sheet
-module _ {q : ℕ} where
-  pub same : (a : Sheet) → SameTo q a a
-  same a = record { holder = refl; content = refl; mark = refl }
+-- process q meets the same of file f in both stores
+pub record SameOf (q f : ℕ) (m k : Store) : Type 0 where
+  pub holder : holderOf m f ≡ holderOf k f
+  pub content : contentOf m f ≡ contentOf k f
+  pub mark : markOf m f q ≡ markOf k f q
 
-  module _ {a b : Sheet} (seen : SameTo q a b) where
-    pub same-holder : (h : ℕ) → SameTo q (withHolder a h) (withHolder b h)
-    same-holder h = record { holder = refl; content = seen .content; mark = seen .mark }
+-- process q sees the same of two sheets that process p meets of a file: the mark only where it is its own
+pub record SameTo (q p : ℕ) (a b : Sheet) : Type 0 where
+  pub holder : a .holder ≡ b .holder
+  pub content : a .content ≡ b .content
+  pub mark : q ≡ p → a .mark ≡ b .mark
 
-    pub same-content : {c e : Content} → c ≡ e → SameTo q (withContent a c) (withContent b e)
-    same-content new = record { holder = seen .holder; content = new; mark = seen .mark }
-
-    pub same-mark : length (a .readers) ≡ length (b .readers) → (p mark : ℕ) → SameTo q (withMark a p mark) (withMark b p mark)
-    same-mark marks p mark =
-        record {
-          holder = seen .holder;
-          content = seen .content;
-          mark = both-set _≡_ (a .readers) (b .readers) p q mark mark 0 marks (seen .mark) (λ e. refl);
-        }
-
-  -- another process's mark is not seen
-  pub other-mark : (a : Sheet) (p mark : ℕ) → q ≢ p → SameTo q a (withMark a p mark)
-  other-mark a p mark apart = record { holder = refl; content = refl; mark = sym (getD-set-other (a .readers) p q mark 0 apart) }
+-- where q meets the same of a file, it sees the same of what p meets
+pub same-to : {q f : ℕ} {m k : Store} (p : ℕ) → SameOf q f m k → SameTo q p (sheetOf m p f) (sheetOf k p f)
+same-to p met = record { holder = met .holder; content = met .content; mark = λ e. rw (← e) (met .mark) }
 
 module _ (s : Setup) (u : ℕ) where
   pub equivalence : Equivalence (Alike s u)
-  equivalence = record { reflexive = reflexive; symmetric = symmetric; transitive = transitive }
-    where
-      reflexive : (m : Store) → Alike s u m m
-      reflexive m = record { files = refl; sheets = λ f. record { marks = refl; seen = λ q o r. same (sheetOf m f) } }
-
-      symmetric : (m k : Store) → Alike s u m k → Alike s u k m
-      symmetric m k a =
-          record {
-            files = sym (a .files);
-            sheets =
-                λ f.
-                record {
-                  marks = sym (a .sheets f .marks);
-                  seen =
-                      λ q o r. let x = a .sheets f .seen q o r in record { holder = cc; content = cc; mark = cc };
-                };
-          }
-
-      transitive : (m k j : Store) → Alike s u m k → Alike s u k j → Alike s u m j
-      transitive m k j a b =
-          record {
-            files = a .files ∙ b .files;
-            sheets =
-                λ f.
-                record {
-                  marks = a .sheets f .marks ∙ b .sheets f .marks;
-                  seen =
-                      λ q o r.
-                      let x = a .sheets f .seen q o r in
-                      let y = b .sheets f .seen q o r in
-                      record { holder = cc; content = cc; mark = cc };
-                };
-          }
-
-  -- new sheets of one file that look alike keep stores alike
-  pub replaced : {m k : Store} {a b : Sheet} (g : ℕ) → Alike s u m k → AlikeAt s u g a b → Alike s u (withSheet m g a) (withSheet k g b)
-  replaced {m} {k} {a} {b} g alike new =
+  equivalence =
       record {
-        files = simp length-set (alike .files);
-        sheets = λ f. both-set (AlikeAt s u f) (m .files) (k .files) g f a b _ (alike .files) (alike .sheets f) (λ e. rw e new);
+        reflexive = λ m. record { lengths = refl; sheets = λ q f o. refl };
+        symmetric = λ m k a. record { lengths = sym (a .lengths); sheets = λ q f o. sym (a .sheets q f o) };
+        transitive = λ m k j a b. record { lengths = a .lengths ∙ b .lengths; sheets = λ q f o. a .sheets q f o ∙ b .sheets q f o };
       }
 
-  -- a new sheet that looks like the old one is not seen
-  pub unseen : {m : Store} {a : Sheet} (g : ℕ) → AlikeAt s u g (sheetOf m g) a → Alike s u m (withSheet m g a)
-  unseen {m} g new = rw (withSheet-own m g) at (replaced {m = m} {k = m} g (equivalence .reflexive m) new)
+  -- a desk sees who holds a file that it may read, what the file holds, and its processes' marks
+  pub seen : {q f : ℕ} {m k : Store} → Sees s u q f → Alike s u m k → SameOf q f m k
+  seen {q} {f} o alike =
+      let same = alike .sheets q f o in
+      record { holder = λ i. same i .holder; content = λ i. same i .content; mark = λ i. same i .mark }
+
+  module _ (few : s .processes ≤ mostProcesses) (p g : ℕ) (exists : p < s .processes) where
+    -- new sheets in one place that look alike keep stores alike
+    pub replaced : {m k : Store} {a b : Sheet} → Alike s u m k → ((q : ℕ) → Sees s u q g → SameTo q p a b) →
+        Alike s u (withSheet m p g a) (withSheet k p g b)
+    replaced {m} {k} {a} {b} alike new =
+        record {
+          lengths = simp length-set (alike .lengths);
+          sheets =
+              λ q f o i.
+              let old = seen o alike in
+              let here : f ≡ g → SameTo q p a b = λ e. new q (rw e at o) in
+              let apart = markAt-apart f g q p (omega arith) (omega arith) in
+              record {
+                holder = both-set (m .holders) (k .holders) g f 0 (λ j. alike .lengths j .0) (old .holder) (λ e. here e .holder) i;
+                content =
+                    both-set (m .contents) (k .contents) g f blankContent (λ j. alike .lengths j .1) (old .content) (λ e. here e .content) i;
+                mark =
+                    both-set (m .marks) (k .marks) (markAt g p) (markAt f q) 0 (λ j. alike .lengths j .2) (old .mark)
+                    (λ e. here (apart e .0) .mark (apart e .1)) i;
+              };
+        }
+
+    -- a new sheet that looks like the old one is not seen
+    pub unseen : {m : Store} {a : Sheet} → ((q : ℕ) → Sees s u q g → SameTo q p (sheetOf m p g) a) → Alike s u m (withSheet m p g a)
+    unseen {m} new = rw (withSheet-own m p g) at (replaced {m = m} {k = m} (equivalence .reflexive m) new)

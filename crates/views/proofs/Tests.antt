@@ -12,13 +12,12 @@ by-refusal P zero none each = none refl
 by-refusal P (suc e) none each = each e
 
 -- two lists of one length that agree at f still do when both are set at g, if what they are set to agrees where f is g
-pub both-set : {A : Type 0} (R : A → A → Type 0) (xs ys : List A) (g f : ℕ) (a b d : A) → length xs ≡ length ys →
-    R (getD xs f d) (getD ys f d) → (f ≡ g → R a b) → R (getD (set xs g a) f d) (getD (set ys g b) f d)
-both-set R [] [] g f a b d e old new = old
-both-set R [] (y ∷ ys) g f a b d e old new = absurd (omega arith)
-both-set R (x ∷ xs) [] g f a b d e old new = absurd (omega arith)
-both-set R (x ∷ xs) (y ∷ ys) zero zero a b d e old new = new refl
-both-set R (x ∷ xs) (y ∷ ys) zero (suc f) a b d e old new = old
-both-set R (x ∷ xs) (y ∷ ys) (suc g) zero a b d e old new = old
-both-set R (x ∷ xs) (y ∷ ys) (suc g) (suc f) a b d e old new =
-    both-set R xs ys g f a b d (omega arith) old (λ q. new (rw q))
+pub both-set : {A : Type 0} (xs ys : List A) (g f : ℕ) {a b : A} (d : A) → length xs ≡ length ys →
+    getD xs f d ≡ getD ys f d → (f ≡ g → a ≡ b) → getD (set xs g a) f d ≡ getD (set ys g b) f d
+both-set [] [] g f d e old new = old
+both-set [] (y ∷ ys) g f d e old new = absurd (omega arith)
+both-set (x ∷ xs) [] g f d e old new = absurd (omega arith)
+both-set (x ∷ xs) (y ∷ ys) zero zero d e old new = new refl
+both-set (x ∷ xs) (y ∷ ys) zero (suc f) d e old new = old
+both-set (x ∷ xs) (y ∷ ys) (suc g) zero d e old new = old
+both-set (x ∷ xs) (y ∷ ys) (suc g) (suc f) d e old new = both-set xs ys g f d (omega arith) old (λ q. new (rw q))

@@ -7,7 +7,7 @@ use mathlib.Core.Logic.{inl, inr}
 use mathlib.Mathlib.Data.Bool.Basic.{eq-false-of-not-eq-true}
 use borrow.Author.Tests.{eq-eqb}
 use Rattle.secrecy.specs.Views.{Unwinding}
-use Rattle.rules.specs.Setups.{mayRead, mayWrite}
+use Rattle.rules.specs.Setups.{mayRead, mayWrite, accepted}
 use Rattle.rules.specs.Calls.{Numbers, callOf, answerTo}
 use Rattle.rules.specs.Refusals.{numbersRefusal}
 use Rattle.rules.specs.Entries.{outcome, ran}
@@ -16,11 +16,12 @@ use Rattle.rules.specs.declared.Setup.{Setup}
 use Rattle.rules.specs.declared.Store.{Store}
 use Rattle.rules.proofs.Lists.{by-test}
 use Rattle.rules.proofs.Sizes.{someBelow-true}
+use Rattle.rules.proofs.Setups.{accepted-sizes}
 use Rattle.rules.proofs.Refusals.{numbers-exist}
 use Rattle.views.specs.Machine.{machine, linkedTo}
-use Rattle.views.specs.Views.{OfDesk, ReadBy, Alike}
+use Rattle.views.specs.Views.{OfDesk, Sees, Alike}
 use Rattle.views.proofs.Tests.{by-refusal}
-use Rattle.views.proofs.Sheets.{equivalence}
+use Rattle.views.proofs.Sheets.{equivalence, seen}
 use Rattle.views.proofs.Numbers.{of-desk, nobody-refused}
 use Rattle.views.proofs.Calls.{SameIfRead, answers-alike}
 use Rattle.views.proofs.Steps.{stays, alone}
@@ -31,18 +32,18 @@ module _ (s : Setup) where
   has-process {d} {p} o = someBelow-true _ _ p (o .exists) (eq-eqb _ _ (o .sits))
 
   -- a link runs where a process of one desk may write what another desk, with a process, may read
-  link : {d u p q g : ℕ} → OfDesk s d p → OfDesk s u q → ReadBy s u g → mayWrite s p g ≡ true → linkedTo s d u
+  link : {d u p q g : ℕ} → OfDesk s d p → Sees s u q g → mayWrite s p g ≡ true → linkedTo s d u
   unfolding linked mayWrite
-  link {d} {u} {g = g} writer reader reads writes =
-      rw (has-process writer, has-process reader)
-      (someBelow-true (s .files) (serves s d u) g (reads .exists) (rw (← writer .sits, writes) (reads .right)))
+  link {d} {u} {g = g} writer reader writes =
+      rw (has-process writer, has-process (reader .process))
+      (someBelow-true (s .files) (serves s d u) g (reader .file .exists) (rw (← writer .sits, writes) (reader .file .right)))
 
   -- a process sees the same of stores alike to its desk, where it may read
   own : {d p f : ℕ} {m k : Store} → OfDesk s d p → f < s .files → Alike s d m k → SameIfRead s p f m k
   unfolding mayRead
   own {d} {p} {f} {m} {k} o exists alike =
       by-test (mayRead s p f)
-      (λ reads. inr (alike .sheets f .seen p o (record { exists = exists; right = rw (o .sits) at reads }))) inl
+      (λ reads. inr (seen s d (record { process = o; file = record { exists = exists; right = rw (o .sits) at reads } }) alike)) inl
 
   -- a refusal looks at no store
   answered : (n : Numbers) (m k : Store) → (numbersRefusal s n ≡ 0 → answerTo s m (callOf n) ≡ answerTo s k (callOf n)) →
@@ -50,9 +51,11 @@ module _ (s : Setup) where
   unfolding ran
   answered n m k agree = by-refusal (λ r. outcome s m n r .answer ≡ outcome s k n r .answer) (numbersRefusal s n) agree (λ r. refl)
 
-  pub unwound : Unwinding (machine s) (linkedTo s) (Alike s)
+  -- accepted, since of more processes than the most two would share an open mark
+  pub unwound : accepted s ≡ true → Unwinding (machine s) (linkedTo s) (Alike s)
   unfolding ran
-  unwound =
+  unwound a =
+      let few = accepted-sizes s a .of-processes .high in
       record {
         views = equivalence s;
         answers-agree =
@@ -63,13 +66,14 @@ module _ (s : Setup) where
             let o = of-desk s n e in
             by-refusal (λ r. Alike s u m (outcome s m n r .store)) (numbersRefusal s n)
             (λ ok.
-            alone s (callOf n) (λ same. may-not (inl (sym (o .sits) ∙ same)))
-            (λ q reader reads. eq-false-of-not-eq-true (λ writes. may-not (inr (link o reader reads writes)))) m)
+            alone s few (callOf n) (o .exists) (λ same. may-not (inl (sym (o .sits) ∙ same)))
+            (λ q reader. eq-false-of-not-eq-true (λ writes. may-not (inr (link o reader writes)))) m)
             (λ r. equivalence s u .reflexive m);
         stays-alike =
             λ n d e u m k alike to-own.
+            let o = of-desk s n e in
             by-refusal (λ r. Alike s u (outcome s m n r .store) (outcome s k n r .store)) (numbersRefusal s n)
-            (λ ok. stays s (callOf n) (own (of-desk s n e) (numbers-exist s n ok .file) to-own) alike) (λ r. alike);
+            (λ ok. stays s few (callOf n) (o .exists) (own o (numbers-exist s n ok .file) to-own) alike) (λ r. alike);
         nobody-changes =
             λ n e m.
             by-refusal (λ r. outcome s m n r .store ≡ m) (numbersRefusal s n) (λ ok. absurd (nobody-refused s n e ok)) (λ r. refl);

@@ -4,9 +4,8 @@ use mathlib.Core.Path.{_≡_}
 use mathlib.Core.Bool.{true}
 use lib.ListN.{length}
 use Rattle.rules.specs.Setups.{hasR, deskOf, classOf, rightOf}
-use Rattle.rules.specs.Stores.{markOf, sheetOf}
+use Rattle.rules.specs.Stores.{sheetOf}
 use Rattle.rules.specs.declared.Setup.{Setup}
-use Rattle.rules.specs.declared.Sheet.{Sheet}
 use Rattle.rules.specs.declared.Store.{Store}
 
 -- q is a process of desk u
@@ -19,20 +18,18 @@ pub record ReadBy (s : Setup) (u f : ℕ) : Type 0 where
   pub exists : f < s .files
   pub right : hasR (rightOf s u (classOf s f)) ≡ true
 
--- the sheets of a file agree in what process q sees there: who holds it, what it holds, and q's own open mark
-pub record SameTo (q : ℕ) (a b : Sheet) : Type 0 where
-  pub holder : a .holder ≡ b .holder
-  pub content : a .content ≡ b .content
-  pub mark : markOf a q ≡ markOf b q
+-- q is a process of desk u, and f is a file that the desk may read
+pub record Sees (s : Setup) (u q f : ℕ) : Type 0 where
+  pub process : OfDesk s u q
+  pub file : ReadBy s u f
 
--- the sheets of file f look alike to desk u
-pub record AlikeAt (s : Setup) (u f : ℕ) (a b : Sheet) : Type 0 where
-  -- so of all sheets, whose marks are an array; the list that stands for it could be of any length
-  pub marks : length (a .readers) ≡ length (b .readers)
-  pub seen : (q : ℕ) → OfDesk s u q → ReadBy s u f → SameTo q a b
+-- how long the lists are that stand for a store's arrays
+abbrev pub lengthsOf : Store → ℕ × ℕ × ℕ
+lengthsOf m = (length (m .holders), length (m .contents), length (m .marks))
 
--- the stores look alike to desk u; a desk with no process sees nothing
+-- the stores look alike to desk u: each of its processes meets the same of each file that the desk may read, which is who
+-- holds it, what it holds, and the process's own open mark; a desk with no process sees nothing
 pub record Alike (s : Setup) (u : ℕ) (m k : Store) : Type 0 where
-  -- so of all stores, as with the marks
-  pub files : length (m .files) ≡ length (k .files)
-  pub sheets : (f : ℕ) → AlikeAt s u f (sheetOf m f) (sheetOf k f)
+  -- so of all stores, whose arrays are of one length; the list that stands for an array could be of any
+  pub lengths : lengthsOf m ≡ lengthsOf k
+  pub sheets : (q f : ℕ) → Sees s u q f → sheetOf m q f ≡ sheetOf k q f

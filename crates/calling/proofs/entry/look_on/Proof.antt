@@ -7,6 +7,9 @@ use Rattle.calling.proofs.entry.look_on.Tie as tie
 process-of-requires : tie.Need-process-of-requires
 process-of-requires c κs = search needs
 
+cast-p : tie.Need-cast-p
+cast-p c = search needs
+
 file-of-requires : tie.Need-file-of-requires
 file-of-requires c κs = search needs
 
@@ -19,17 +22,11 @@ changeable-requires c κs = search needs
 cast-x : tie.Need-cast-x
 cast-x c = search needs
 
-cast-right-of : tie.Need-cast-right-of
-cast-right-of c = search needs
-
 right-of-requires : tie.Need-right-of-requires
 right-of-requires c κs = search needs
 
 has-r-requires : tie.Need-has-r-requires
 has-r-requires c κs = search needs
-
-cast-right-of-2 : tie.Need-cast-right-of-2
-cast-right-of-2 c = search needs
 
 right-of-requires-2 : tie.Need-right-of-requires-2
 right-of-requires-2 c κs = search needs
@@ -37,15 +34,15 @@ right-of-requires-2 c κs = search needs
 has-w-requires : tie.Need-has-w-requires
 has-w-requires c κs = search needs
 
-has-open-requires : tie.Need-has-open-requires
-has-open-requires c κs = search needs
+is-open-requires : tie.Need-is-open-requires
+is-open-requires c κs = search needs
 
 returns : tie.Need-returns
 returns c =
     simp (
       c .before .before .before .before .has-r .ensures,
       c .before .before .has-w .ensures,
-      c .before .has-open .ensures,
+      c .before .is-open .ensures,
       c .before .before .before .before .before .right-of .ensures,
       c .before .before .before .right-of2 .ensures,
       c .before .before .before .before .before .before .before .before .process-of .ensures,
@@ -58,15 +55,14 @@ look-on-spec =
     tie.close
     (tie.spec
     process-of-requires
+    cast-p
     file-of-requires
     cast-f
     changeable-requires
     cast-x
-    cast-right-of
     right-of-requires
     has-r-requires
-    cast-right-of-2
     right-of-requires-2
     has-w-requires
-    has-open-requires
+    is-open-requires
     returns)

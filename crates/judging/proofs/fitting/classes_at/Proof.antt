@@ -5,17 +5,11 @@ use borrow.Author.Tests.{lt-ltb, le-ltb}
 use Rattle.judging.proofs.fitting.classes_at.Statement.{statement}
 use Rattle.judging.proofs.fitting.classes_at.Tie as tie
 
-cast-if1 : tie.Need-cast-if1
-cast-if1 c = search needs
-
-cast-result : tie.Need-cast-result
-cast-result c = search needs
-
 returns : tie.Need-returns
-returns c = simp (lt-ltb _ _ (c .before .if1 .taken))
+returns c = simp (lt-ltb _ _ (c .if1 .taken))
 
 returns-2 : tie.Need-returns-2
 returns-2 c = simp (le-ltb _ _ (c .if1 .left))
 
 pub classes-at-spec : {M : Type 1} → statement M
-classes-at-spec = tie.close (tie.spec cast-if1 cast-result returns returns-2)
+classes-at-spec = tie.close (tie.spec returns returns-2)

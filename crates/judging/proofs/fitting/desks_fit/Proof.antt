@@ -1,15 +1,12 @@
--- `judging::fitting::desks_fit` meets its contract: the array has as many entries as there can be processes.
+-- `judging::fitting::desks_fit` meets its contract, by what its callee answers.
 -- Assumes nothing.
-use borrow.Author.Needs.{needs}
-use Rattle.rules.specs.Setups.{desksFit}
-use Rattle.rules.specs.Sizes.{mostProcesses}
 use mathlib.Core.Path.{_≡_}
 use lib.ListN.{length}
+use borrow.Author.Needs.{needs}
+use Rattle.rules.specs.Sizes.{mostProcesses}
+use Rattle.rules.specs.Setups.{desksFit}
 use Rattle.judging.proofs.fitting.desks_fit.Statement.{statement}
 use Rattle.judging.proofs.fitting.desks_fit.Tie as tie
-
-slice-aggregate-entries-fit : tie.Need-slice-aggregate-entries-fit
-slice-aggregate-entries-fit c = search needs
 
 cast-entries-fit : tie.Need-cast-entries-fit
 cast-entries-fit c = search needs
@@ -23,16 +20,9 @@ entries-fit-requires c κs = search needs
 returns : tie.Need-returns
 unfolding desksFit
 returns c =
-    let s = c .before .before .before .before .before .args .setup in
-    let long : length (s .desk) ≡ mostProcesses = search needs in
+    let long : length (c .before .before .before .before .args .t1 .desk) ≡ mostProcesses = search needs in
     rw (c .entries-fit .ensures, long)
 
 pub desks-fit-spec : {M : Type 1} → statement M
 desks-fit-spec =
-    tie.close
-    (tie.spec
-    slice-aggregate-entries-fit
-    cast-entries-fit
-    cast-entries-fit-2
-    entries-fit-requires
-    returns)
+    tie.close (tie.spec cast-entries-fit cast-entries-fit-2 entries-fit-requires returns)

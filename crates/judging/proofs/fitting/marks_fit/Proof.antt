@@ -2,40 +2,36 @@
 -- Assumes nothing.
 use Prim.Native.Nat.{_-_}
 use native.Mathlib.Omega.{arith}
+use lib.ListN.{getD}
 use borrow.Author.Needs.{needs}
 use Rattle.rules.specs.Sizes.{mostProcesses}
 use Rattle.rules.specs.Setups.{mayRead}
-use Rattle.rules.specs.Stores.{markOf, markFits, marksFit}
+use Rattle.rules.specs.Stores.{markAt, markFits, marksFit}
 use Rattle.rules.proofs.Passed.{Passed, passed-none, passed-more, passed-all, stopped-at}
 use Rattle.rules.proofs.Told.{fails, holds}
-use Rattle.judging.specs.Tables.{tables}
 use Rattle.judging.proofs.fitting.marks_fit.Statement.{statement}
 use Rattle.judging.proofs.fitting.marks_fit.Tie as tie
 
 abbrev Inv-loop : tie.InvT-loop
-Inv-loop f sheet rights desk class processes p₀ p =
-    Passed mostProcesses (λ k. markFits (tables processes rights desk class) f k (markOf sheet k)) p
+Inv-loop f marks setup processes start p₀ p = Passed mostProcesses (λ k. markFits setup f k (getD marks (markAt f k) 0)) p
 
 abbrev μ-loop : tie.MeasureT-loop
-μ-loop f sheet rights desk class processes p₀ p = mostProcesses - p
+μ-loop f marks setup processes start p₀ p = mostProcesses - p
 
 cast-processes : tie.Need-cast-processes Inv-loop μ-loop
 cast-processes c = search needs
 
+mul-start : tie.Need-mul-start Inv-loop μ-loop
+mul-start c = search needs
+
 loop-holds : tie.Need-loop-holds Inv-loop μ-loop
 loop-holds c = passed-none _ _
 
-slice-aggregate-mark-fits : tie.Need-slice-aggregate-mark-fits Inv-loop μ-loop
-slice-aggregate-mark-fits c = search needs
+add-mark-fits : tie.Need-add-mark-fits Inv-loop μ-loop
+add-mark-fits c = omega (arith, c .before .before .before .before .before .before .before .before .before .before .pre .0)
 
-slice-aggregate-mark-fits-2 : tie.Need-slice-aggregate-mark-fits-2 Inv-loop μ-loop
-slice-aggregate-mark-fits-2 c = search needs
-
-slice-aggregate-mark-fits-3 : tie.Need-slice-aggregate-mark-fits-3 Inv-loop μ-loop
-slice-aggregate-mark-fits-3 c = search needs
-
-element-copy-out-mark-fits : tie.Need-element-copy-out-mark-fits Inv-loop μ-loop
-element-copy-out-mark-fits c = search needs
+shared-slice-read-mark-fits : tie.Need-shared-slice-read-mark-fits Inv-loop μ-loop
+shared-slice-read-mark-fits c = omega (arith, c .before .before .before .before .before .before .before .before .before .before .before .pre .0, c .before .before .before .before .before .before .before .before .before .before .before .pre .1)
 
 mark-fits-requires : tie.Need-mark-fits-requires Inv-loop μ-loop
 mark-fits-requires c κs = search needs
@@ -51,8 +47,8 @@ loop-less : tie.Need-loop-less Inv-loop μ-loop
 loop-less c = omega arith
 
 loop-again : tie.Need-loop-again Inv-loop μ-loop
-loop-again c =
-    passed-more _ _ _ (c .before .before .before .before .before .before .before .loop .inv) (omega arith) (holds (c .before .mark-fits .ensures) (c .if1 .left))
+unfolding markFits mayRead
+loop-again c = passed-more _ _ _ (c .before .before .before .before .before .before .before .before .before .before .before .loop .inv) (omega arith) (holds (c .before .mark-fits .ensures) (c .if1 .left))
 
 returns-2 : tie.Need-returns-2 Inv-loop μ-loop
 unfolding marksFit markFits mayRead
@@ -65,11 +61,10 @@ marks-fit-spec =
     Inv-loop
     μ-loop
     cast-processes
+    mul-start
     loop-holds
-    slice-aggregate-mark-fits
-    slice-aggregate-mark-fits-2
-    slice-aggregate-mark-fits-3
-    element-copy-out-mark-fits
+    add-mark-fits
+    shared-slice-read-mark-fits
     mark-fits-requires
     returns
     add-p

@@ -1,9 +1,11 @@
 -- `judging::fitting::rights_fit` meets its contract. The loop's invariant: the row of every desk passed fits.
 -- Assumes nothing.
 use Prim.Native.Nat.{_-_}
+use mathlib.Core.Path.{_≡_}
 use native.Mathlib.Omega.{arith}
+use lib.ListN.{length}
 use borrow.Author.Needs.{needs}
-use Rattle.rules.specs.Sizes.{mostDesks}
+use Rattle.rules.specs.Sizes.{mostDesks, mostRights}
 use Rattle.rules.specs.Setups.{rowFits, rightsFit}
 use Rattle.rules.proofs.Passed.{Passed, passed-none, passed-more, passed-all, stopped-at}
 use Rattle.rules.proofs.Told.{fails, holds}
@@ -19,12 +21,20 @@ abbrev μ-loop : tie.MeasureT-loop
 loop-holds : tie.Need-loop-holds Inv-loop μ-loop
 loop-holds c = passed-none _ _
 
+classes-at-requires : tie.Need-classes-at-requires Inv-loop μ-loop
+classes-at-requires c κs = search needs
+
 row-fits-requires : tie.Need-row-fits-requires Inv-loop μ-loop
-row-fits-requires c κs = search needs
+row-fits-requires c κs = let long : length (c .before .before .before .before .before .before .args .t1 .rights) ≡ mostRights = search needs in (omega (arith, c .before .before .before .before .loop-test .taken), long)
+
+-- what was asked of the row is what fitting asks of it
+row : (c : tie.After-row-fits Inv-loop μ-loop) → c .row-fits .result ≡ rowFits (c .before .before .before .before .before .before .before .args .t1) (c .before .before .before .before .before .before .loop .desk)
+unfolding rowFits
+row c = rw (c .row-fits .ensures, c .before .before .before .before .classes-at .ensures)
 
 returns : tie.Need-returns Inv-loop μ-loop
 unfolding rightsFit
-returns c = stopped-at _ _ _ (omega arith) (fails (c .before .row-fits .ensures) (c .if1 .taken))
+returns c = stopped-at _ _ _ (omega arith) (fails (row (c .before)) (c .if1 .taken))
 
 add-desk : tie.Need-add-desk Inv-loop μ-loop
 add-desk c = omega arith
@@ -33,11 +43,23 @@ loop-less : tie.Need-loop-less Inv-loop μ-loop
 loop-less c = omega arith
 
 loop-again : tie.Need-loop-again Inv-loop μ-loop
-loop-again c = passed-more _ _ _ (c .before .before .before .loop .inv) (omega arith) (holds (c .before .row-fits .ensures) (c .if1 .left))
+loop-again c = passed-more _ _ _ (c .before .before .before .before .before .before .before .loop .inv) (omega arith) (holds (row (c .before)) (c .if1 .left))
 
 returns-2 : tie.Need-returns-2 Inv-loop μ-loop
 unfolding rightsFit
 returns-2 c = passed-all _ _ _ (c .before .loop .inv) (c .loop-test .left)
 
 pub rights-fit-spec : {M : Type 1} → statement M
-rights-fit-spec = tie.close (tie.spec Inv-loop μ-loop loop-holds row-fits-requires returns add-desk loop-less loop-again returns-2)
+rights-fit-spec =
+    tie.close
+    (tie.spec
+    Inv-loop
+    μ-loop
+    loop-holds
+    classes-at-requires
+    row-fits-requires
+    returns
+    add-desk
+    loop-less
+    loop-again
+    returns-2)

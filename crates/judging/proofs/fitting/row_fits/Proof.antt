@@ -1,14 +1,12 @@
 -- `judging::fitting::row_fits` meets its contract: a desk's rights are a part of the table.
 -- Assumes nothing.
-use borrow.Author.Needs.{needs}
-use Rattle.rules.specs.Setups.{rightBoth, entryFits, classesAt, rowFits}
-use Rattle.rules.specs.Sizes.{mostClasses, mostRights}
-use mathlib.Core.Path.{_≡_}
-use lib.ListN.{length}
-use native.Mathlib.Omega.{arith}
-use Rattle.rules.proofs.Sizes.{every-part}
 use Prim.Native.Nat.{_+_, _*_}
 use native.Mathlib.Nat.{add-sub-cancel-left}
+use native.Mathlib.Omega.{arith}
+use borrow.Author.Needs.{needs}
+use Rattle.rules.specs.Sizes.{mostClasses}
+use Rattle.rules.specs.Setups.{rightBoth, entryFits}
+use Rattle.rules.proofs.Sizes.{every-part}
 use Rattle.judging.proofs.fitting.row_fits.Statement.{statement}
 use Rattle.judging.proofs.fitting.row_fits.Tie as tie
 
@@ -25,12 +23,7 @@ part-entries-fit-start : tie.Need-part-entries-fit-start
 part-entries-fit-start c = search needs
 
 part-entries-fit-end : tie.Need-part-entries-fit-end
-part-entries-fit-end c =
-    let long : length (c .before .before .args .setup .rights) ≡ mostRights = search needs in
-    omega arith
-
-classes-at-requires : tie.Need-classes-at-requires
-classes-at-requires c κs = search needs
+part-entries-fit-end c = search needs
 
 cast-entries-fit : tie.Need-cast-entries-fit
 cast-entries-fit c = search needs
@@ -42,12 +35,11 @@ entries-fit-requires : tie.Need-entries-fit-requires
 entries-fit-requires c κs = search needs
 
 returns : tie.Need-returns
-unfolding rowFits
 returns c =
-    let a = c .before .before .before .before .before .args in
-    let long : length (a .setup .rights) ≡ mostRights = search needs in
-    rw (c .entries-fit .ensures, add-sub-cancel-left, c .before .classes-at .ensures)
-    (every-part (a .setup .rights) (a .desk * mostClasses) mostClasses (entryFits (classesAt (a .setup) (a .desk)) (rightBoth + 1)) (omega arith))
+    let a = c .before .before .before .args in
+    let r = c .before .before .before .pre in
+    rw (c .entries-fit .ensures, add-sub-cancel-left)
+    (every-part (a .rights .now) (a .desk * mostClasses) mostClasses (entryFits (a .classes) (rightBoth + 1)) (omega (arith, r .0, r .1)))
 
 pub row-fits-spec : {M : Type 1} → statement M
 row-fits-spec =
@@ -58,7 +50,6 @@ row-fits-spec =
     sub-entries-fit
     part-entries-fit-start
     part-entries-fit-end
-    classes-at-requires
     cast-entries-fit
     add-entries-fit
     entries-fit-requires

@@ -1,34 +1,34 @@
--- `judging::fitting::sheet_fits` meets its contract: the tests that led to each return settle what is asked before it.
+-- `judging::fitting::file_fits` meets its contract: the tests that led to each return settle what is asked before it.
 -- Assumes nothing.
 use borrow.Author.Needs.{needs}
 use borrow.Author.Tests.{lt-ltb, le-ltb}
-use Rattle.rules.specs.Stores.{sheetFits}
+use Rattle.rules.specs.Stores.{fileFits}
 use Rattle.rules.proofs.Told.{fails, holds}
-use Rattle.judging.proofs.fitting.sheet_fits.Statement.{statement}
-use Rattle.judging.proofs.fitting.sheet_fits.Tie as tie
+use Rattle.judging.proofs.fitting.file_fits.Statement.{statement}
+use Rattle.judging.proofs.fitting.file_fits.Tie as tie
 
 cast-if1 : tie.Need-cast-if1
 cast-if1 c = search needs
 
-sheet-is-blank-requires : tie.Need-sheet-is-blank-requires
-sheet-is-blank-requires c κs = search needs
+file-is-blank-requires : tie.Need-file-is-blank-requires
+file-is-blank-requires c κs = search needs
 
 returns : tie.Need-returns
-unfolding sheetFits
-returns c = simp (le-ltb _ _ (c .before .if1 .taken), c .sheet-is-blank .ensures)
+unfolding fileFits
+returns c = simp (le-ltb _ _ (c .before .if1 .taken), c .file-is-blank .ensures)
 
 holder-fits-requires : tie.Need-holder-fits-requires
 holder-fits-requires c κs = search needs
 
 returns-2 : tie.Need-returns-2
-unfolding sheetFits
+unfolding fileFits
 returns-2 c = simp (lt-ltb _ _ (c .before .before .if1 .left), fails (c .before .holder-fits .ensures) (c .if2 .taken))
 
 marks-fit-requires : tie.Need-marks-fit-requires
 marks-fit-requires c κs = search needs
 
 returns-3 : tie.Need-returns-3
-unfolding sheetFits
+unfolding fileFits
 returns-3 c =
     simp (
       lt-ltb _ _ (c .before .before .before .if1 .left),
@@ -36,12 +36,12 @@ returns-3 c =
       c .marks-fit .ensures,
     )
 
-pub sheet-fits-spec : {M : Type 1} → statement M
-sheet-fits-spec =
+pub file-fits-spec : {M : Type 1} → statement M
+file-fits-spec =
     tie.close
     (tie.spec
     cast-if1
-    sheet-is-blank-requires
+    file-is-blank-requires
     returns
     holder-fits-requires
     returns-2

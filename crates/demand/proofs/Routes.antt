@@ -1,0 +1,66 @@
+-- Laws of the list that shows a route: how many calls it has, and that each is four 32-bit numbers.
+-- Assumes nothing.
+use Prim.Native.Nat.{ℕ, _+_, _<_, _≤_}
+use mathlib.Core.Path.{_≡_, refl, sym, subst}
+use mathlib.Core.Bool.{true}
+use mathlib.Core.Logic.{⊎-elim}
+use mathlib.Core.List.{List, [], _∷_, List·Memᴰ·not-nil, List·Memᴰ·cases-cons}
+use native.Mathlib.Omega.{arith}
+use lib.ListN.{length}
+use Rattle.secrecy.specs.Sets.{Every}
+use Rattle.rules.specs.Setups.{accepted}
+use Rattle.rules.specs.Calls.{Numbers}
+use Rattle.rules.specs.declared.Setup.{Setup}
+use Rattle.rules.proofs.Setups.{accepted-sizes}
+use Rattle.chains.specs.Chains.{processAt, fileFor, isChain, Fewest, mostLinks}
+use Rattle.chains.proofs.Chains.{chain-first}
+use Rattle.chains.proofs.Enough.{fewest-lt}
+use Rattle.chains.proofs.Acts.{ActsBy, link-acts}
+use Rattle.demand.specs.Routes.{onward, routeCalls, callsFor}
+use Rattle.demand.specs.Heard.{Is32}
+
+-- from a desk on there is one call more than its links ask for, the OPEN of the link before it
+onward-length : (s : Setup) (d f : ℕ) (rest : List ℕ) → length (onward s d f rest) ≡ callsFor (length rest) + 1
+unfolding onward
+onward-length s d f [] = refl
+onward-length s d f (u ∷ rest) = omega (arith, onward-length s u (fileFor s d u) rest)
+
+-- "The list written has 4k+1 calls"
+pub routeCalls-length : (s : Setup) (a : ℕ) (xs : List ℕ) → 0 < length xs → length (routeCalls s a xs) ≡ callsFor (length xs)
+unfolding routeCalls
+routeCalls-length s a [] h = absurd (omega arith)
+routeCalls-length s a (d ∷ rest) h = omega (arith, onward-length s d (fileFor s a d) rest)
+
+-- "As k is at most 15, 61 calls .. suffice"
+pub routeCalls-most : (s : Setup) → accepted s ≡ true → (a b : ℕ) (xs : List ℕ) → Fewest s a b xs → length (routeCalls s a xs) ≤ callsFor mostLinks
+unfolding routeCalls
+routeCalls-most s e a b [] h = omega arith
+routeCalls-most s e a b (d ∷ rest) h =
+    omega (arith, routeCalls-length s a (d ∷ rest) (omega arith), fewest-lt s e a b (d ∷ rest) h, accepted-sizes s e .of-desks .high)
+
+-- no call, and one call more
+none-32 : Every Is32 []
+none-32 n m = absurd (List·Memᴰ·not-nil m)
+
+more-32 : {n : Numbers} {acts : List Numbers} → Is32 n → Every Is32 acts → Every Is32 (n ∷ acts)
+more-32 h k n m = ⊎-elim (λ q. subst Is32 (sym q) h) (k n) (List·Memᴰ·cases-cons m)
+
+module _ (s : Setup) (e : accepted s ≡ true) where
+  onward-32 : (b : ℕ) (rest : List ℕ) (d f : ℕ) → isChain s d b rest ≡ true → ActsBy s d (processAt s d) → f < s .files → Every Is32 (onward s d f rest)
+  unfolding onward
+  onward-32 b [] d f h own on = let sizes = accepted-sizes s e in more-32 (omega arith) (more-32 (omega arith) none-32)
+  onward-32 b (u ∷ rest) d f h own on =
+      let sizes = accepted-sizes s e in
+      let (l, r) = chain-first s d b u rest .0 h in
+      let k = link-acts s d u l in
+      more-32 (omega arith) (more-32 (omega arith) (more-32 (omega arith) (more-32 (omega arith) (onward-32 b rest u (fileFor s d u) r (k .to) (k .by .exists)))))
+
+  -- each process and each file of the list exists, so every call in it is four 32-bit numbers
+  pub routeCalls-32 : (a b : ℕ) (xs : List ℕ) → isChain s a b xs ≡ true → Every Is32 (routeCalls s a xs)
+  unfolding routeCalls
+  routeCalls-32 a b [] h = none-32
+  routeCalls-32 a b (d ∷ rest) h =
+      let sizes = accepted-sizes s e in
+      let (l, r) = chain-first s a b d rest .0 h in
+      let k = link-acts s a d l in
+      more-32 (omega arith) (more-32 (omega arith) (more-32 (omega arith) (onward-32 b rest d (fileFor s a d) r (k .to) (k .by .exists))))

@@ -1,0 +1,41 @@
+-- What a desk hears: the answers to its calls from a fresh store, with another desk's calls and without them.
+use Prim.Native.Nat.{ℕ, _≤_}
+use mathlib.Core.Path.{_≡_}
+use mathlib.Core.List.{List, [], _∷_}
+use Rattle.secrecy.specs.Machine.{answersTo}
+use Rattle.secrecy.specs.Strike.{strikeDesk}
+use Rattle.secrecy.specs.Sets.{Every}
+use Rattle.rules.specs.Stores.{freshStore}
+use Rattle.rules.specs.Calls.{Numbers}
+use Rattle.rules.specs.declared.Setup.{Setup}
+use Rattle.rules.specs.declared.Answer.{Answer}
+use Rattle.rules.specs.declared.Answer.the-variants.{Nothing, Figure}
+use Rattle.views.specs.Machine.{machine}
+
+-- the largest of the 32-bit numbers: "0 to 4,294,967,295"
+abbrev pub mostNumber : ℕ
+mostNumber = 4_294_967_295
+
+-- "A call is four 32-bit numbers"
+pub record Is32 (n : Numbers) : Type 0 where
+  pub operation : n .operation ≤ mostNumber
+  pub process : n .process ≤ mostNumber
+  pub file : n .file ≤ mostNumber
+  pub extra : n .extra ≤ mostNumber
+
+-- all answers to desk b's calls from a fresh store, refusals among them
+abbrev pub heard : Setup → ℕ → List Numbers → List Answer
+heard s b acts = answersTo (machine s) b freshStore acts
+
+-- the list with desk a's calls struck out
+abbrev pub without : Setup → ℕ → List Numbers → List Numbers
+without s a acts = strikeDesk (machine s) a acts
+
+-- no list of calls lets desk b hear whether desk a's are in it
+abbrev pub Unheard : Setup → ℕ → ℕ → Type 0
+Unheard s a b = (acts : List Numbers) → Every Is32 acts → heard s b acts ≡ heard s b (without s a acts)
+
+-- the list lets desk b hear desk a: its last answer is the figure 1, and the figure 0 without a's calls
+pub record Shows (s : Setup) (a b : ℕ) (acts : List Numbers) : Type 0 where
+  pub with-them : heard s b acts ≡ Nothing ∷ Figure 1 ∷ []
+  pub without-them : heard s b (without s a acts) ≡ Nothing ∷ Figure 0 ∷ []

@@ -1,0 +1,3 @@
+-- The calls that show a route, and what a desk hears.
+pub mod Routes
+pub mod Heard

@@ -1,0 +1,53 @@
+-- 01, "The route report": the list of calls that shows a route.
+use Prim.Native.Nat.{ℕ, _+_, _*_}
+use mathlib.Core.List.{List, [], _∷_}
+use Rattle.rules.specs.Calls.{Numbers, numbers, codeOfWrite, codeOfCopy}
+use Rattle.rules.specs.declared.Setup.{Setup}
+use Rattle.chains.specs.Chains.{processAt, fileFor}
+
+-- the calls of the list as four numbers, by the codes of their names
+abbrev pub readCall : ℕ → ℕ → Numbers
+readCall p f = numbers 1 p f 0
+
+abbrev pub writeCall : ℕ → ℕ → ℕ → Numbers
+writeCall p f x = numbers codeOfWrite p f x
+
+abbrev pub lockCall : ℕ → ℕ → Numbers
+lockCall p f = numbers 3 p f 0
+
+abbrev pub unlockCall : ℕ → ℕ → Numbers
+unlockCall p f = numbers 4 p f 0
+
+abbrev pub openCall : ℕ → ℕ → Numbers
+openCall p f = numbers 5 p f 0
+
+abbrev pub copyCall : ℕ → ℕ → ℕ → Numbers
+copyCall p f x = numbers codeOfCopy p f x
+
+-- "each middle desk's OPEN of the file before it, LOCK of the next, COPY, UNLOCK; B's OPEN and READ": from desk d on, which f lies before
+unfoldable pub onward : Setup → ℕ → ℕ → List ℕ → List Numbers
+onward s d f [] = let p = processAt s d in openCall p f ∷ readCall p f ∷ []
+onward s d f (e ∷ rest) =
+    let p = processAt s d in
+    let g = fileFor s d e in
+    openCall p f ∷ lockCall p g ∷ copyCall p f g ∷ unlockCall p g ∷ onward s e g rest
+
+-- "A's LOCK, WRITE of 1, UNLOCK", and so on along the chain; a chain with no link is no route
+unfoldable pub routeCalls : Setup → ℕ → List ℕ → List Numbers
+routeCalls s a [] = []
+routeCalls s a (d ∷ rest) =
+    let p = processAt s a in
+    let g = fileFor s a d in
+    lockCall p g ∷ writeCall p g 1 ∷ unlockCall p g ∷ onward s d g rest
+
+-- a link's LOCK, WRITE or COPY, UNLOCK, and the OPEN at its end
+abbrev pub callsOfLink : ℕ
+callsOfLink = 4
+
+-- B's READ
+abbrev pub callsAtEnd : ℕ
+callsAtEnd = 1
+
+-- "The list written has 4k+1 calls"
+abbrev pub callsFor : ℕ → ℕ
+callsFor k = callsOfLink * k + callsAtEnd
