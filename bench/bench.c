@@ -294,6 +294,68 @@ static void measure(const char *name, form *ours, form *peers)
            stack_of(peers));
 }
 
+/* ---- Routes, on setups that cost much: as many desks, processes and files as can be. */
+
+enum { REPORTS = 20 };
+
+/* Desk d writes class d, and reads the class before its own: a chain through all desks. The files of each class lie last
+ * first, so that most are looked at. */
+static void make_line(dw_setup *s)
+{
+    memset(s, 0, sizeof *s);
+    s->desks = DW_DESKS;
+    s->classes = DW_CLASSES;
+    s->processes = DW_PROCESSES;
+    s->files = DW_FILES;
+    for (uint32_t d = 0; d < DW_DESKS; d++) {
+        s->rights[d * DW_CLASSES + d] = DW_W;
+        if (d > 0)
+            s->rights[d * DW_CLASSES + d - 1] = DW_R;
+    }
+    for (uint32_t p = 0; p < DW_PROCESSES; p++)
+        s->desk_of[p] = (uint8_t)(DW_DESKS - 1 - p % DW_DESKS);
+    for (uint32_t f = 0; f < DW_FILES; f++)
+        s->class_of[f] = (uint8_t)(DW_CLASSES - 1 - f % DW_CLASSES);
+}
+
+static void make_full(dw_setup *s)
+{
+    make_line(s);
+    memset(s->rights, DW_RW, sizeof s->rights);
+}
+
+static double route_time(const dw_setup *s, uint32_t a, uint32_t b, int ours, uint32_t *room, dw_answer *answer)
+{
+    double began = now();
+
+    for (int i = 0; i < REPORTS; i++)
+        *answer = ours ? dw_route(*s, a, b, room, DW_ROUTE_NUMBERS) : peer_route(s, a, b, room, DW_ROUTE_NUMBERS);
+    return (now() - began) / REPORTS;
+}
+
+static void measure_route(const char *name, void make(dw_setup *), uint32_t a, uint32_t b)
+{
+    static double our_times[RUNS], peer_times[RUNS];
+    static uint32_t our_room[DW_ROUTE_NUMBERS], peer_room[DW_ROUTE_NUMBERS];
+    double our_time, peer_time;
+    dw_answer our, peer;
+    dw_setup s;
+
+    make(&s);
+    memset(our_room, 0xFF, sizeof our_room);
+    memset(peer_room, 0xFF, sizeof peer_room);
+    for (int i = 0; i < RUNS; i++) {
+        our_times[i] = route_time(&s, a, b, 1, our_room, &our);
+        peer_times[i] = route_time(&s, a, b, 0, peer_room, &peer);
+        differs |= our.kind != peer.kind || our.value != peer.value;
+        differs |= memcmp(our_room, peer_room, sizeof our_room) != 0;
+    }
+    our_time = median(our_times);
+    peer_time = median(peer_times);
+    printf("%-32s %10.1f %10.1f %8.2f %9u calls\n", name, our_time, peer_time, our_time / peer_time,
+           our.kind == DW_ROUTE ? our.value : 0);
+}
+
 int main(void)
 {
     int went;
@@ -315,6 +377,9 @@ int main(void)
     printf("%-32s not in the library yet\n", "(b) calls by dw_call_in_place");
 #endif
     measure("    calls by dw_call, by value", value_calls, peer_calls);
+    measure_route("route, 16 desks in a line", make_line, 0, DW_DESKS - 1);
+    measure_route("no route, back along the line", make_line, DW_DESKS - 1, 0);
+    measure_route("route, all rights set", make_full, 0, DW_DESKS - 1);
     if (went * 2 < DW_CALLS) {
         printf("FAILED: fewer than half of the calls go through\n");
         return 1;

@@ -191,3 +191,122 @@ dw_answer peer_run(const dw_setup *setup, dw_store *store, const uint32_t *calls
     }
     return answer(DW_NOTHING, (uint32_t)count);
 }
+
+/* ---- The route report: a breadth-first search back from b, then a walk forward from a. */
+
+/* What one report works with: each desk's first process, and how many links it stands from b. */
+struct search {
+    const dw_setup *s;
+    uint32_t first[DW_DESKS];
+    uint32_t links[DW_DESKS];
+};
+
+static void find_firsts(struct search *r)
+{
+    const dw_setup *s = r->s;
+
+    for (uint32_t d = 0; d < DW_DESKS; d++)
+        r->first[d] = s->processes;
+    for (uint32_t p = s->processes; p-- > 0;)
+        r->first[s->desk_of[p]] = p;
+}
+
+/* The lowest file whose class d may write and e may read, or the number of files. */
+static uint32_t file_for(const dw_setup *s, uint32_t d, uint32_t e)
+{
+    for (uint32_t f = 0; f < s->files; f++)
+        if (s->rights[d * DW_CLASSES + s->class_of[f]] & DW_W && s->rights[e * DW_CLASSES + s->class_of[f]] & DW_R)
+            return f;
+    return s->files;
+}
+
+static int linked(const struct search *r, uint32_t d, uint32_t e)
+{
+    const dw_setup *s = r->s;
+
+    return r->first[d] < s->processes && r->first[e] < s->processes && file_for(s, d, e) < s->files;
+}
+
+/* Ends as soon as a is reached: every desk nearer to b is known by then. */
+static void search_back(struct search *r, uint32_t a, uint32_t b)
+{
+    uint32_t queue[DW_DESKS], head = 0, tail = 0;
+
+    for (uint32_t d = 0; d < DW_DESKS; d++)
+        r->links[d] = DW_DESKS;
+    r->links[b] = 0;
+    queue[tail++] = b;
+    while (head < tail) {
+        uint32_t e = queue[head++];
+
+        for (uint32_t d = 0; d < r->s->desks; d++) {
+            if (r->links[d] != DW_DESKS || !linked(r, d, e))
+                continue;
+            r->links[d] = r->links[e] + 1;
+            if (d == a)
+                return;
+            queue[tail++] = d;
+        }
+    }
+}
+
+/* The lowest desk that has a link from d and stands one link nearer. */
+static uint32_t next_desk(const struct search *r, uint32_t d)
+{
+    uint32_t e = 0;
+
+    while (r->links[e] != r->links[d] - 1 || !linked(r, d, e))
+        e++;
+    return e;
+}
+
+static uint32_t *put_call(uint32_t *at, uint32_t op, uint32_t p, uint32_t f, uint32_t x)
+{
+    at[0] = op;
+    at[1] = p;
+    at[2] = f;
+    at[3] = x;
+    return at + DW_CALL_WIDTH;
+}
+
+static void write_list(const struct search *r, uint32_t a, uint32_t b, uint32_t *at)
+{
+    uint32_t d = next_desk(r, a), f = file_for(r->s, a, d), p = r->first[a];
+
+    at = put_call(at, DW_LOCK, p, f, 0);
+    at = put_call(at, DW_WRITE, p, f, 1);
+    at = put_call(at, DW_UNLOCK, p, f, 0);
+    while (d != b) {
+        uint32_t e = next_desk(r, d), g = file_for(r->s, d, e);
+
+        p = r->first[d];
+        at = put_call(at, DW_OPEN, p, f, 0);
+        at = put_call(at, DW_LOCK, p, g, 0);
+        at = put_call(at, DW_COPY, p, f, g);
+        at = put_call(at, DW_UNLOCK, p, g, 0);
+        d = e;
+        f = g;
+    }
+    at = put_call(at, DW_OPEN, r->first[b], f, 0);
+    put_call(at, DW_READ, r->first[b], f, 0);
+}
+
+dw_answer peer_route(const dw_setup *setup, uint32_t a, uint32_t b, uint32_t *room, size_t room_len)
+{
+    struct search r = {.s = setup};
+
+    if (!accepted(setup))
+        return answer(DW_REFUSED, 15);
+    if (a >= setup->desks || b >= setup->desks)
+        return answer(DW_REFUSED, 12);
+    if (a == b)
+        return answer(DW_REFUSED, 13);
+    if (room_len < DW_ROUTE_NUMBERS)
+        return answer(DW_REFUSED, 11);
+    find_firsts(&r);
+    search_back(&r, a, b);
+    if (r.links[a] == DW_DESKS)
+        return answer(DW_NO_ROUTE, 0);
+    write_list(&r, a, b, room);
+    return answer(DW_ROUTE, 4 * r.links[a] + 1);
+}

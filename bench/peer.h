@@ -11,4 +11,7 @@ dw_answer peer_call(const dw_setup *setup, dw_store *store, uint32_t op, uint32_
 dw_answer peer_run(const dw_setup *setup, dw_store *store, const uint32_t *calls, size_t calls_len,
                    uint32_t *answers, size_t answers_len);
 
+/* As dw_route. */
+dw_answer peer_route(const dw_setup *setup, uint32_t a, uint32_t b, uint32_t *room, size_t room_len);
+
 #endif

@@ -1,5 +1,5 @@
 /* A host in C: accepts a setup, keeps one store in its memory, and lends it for nine calls. They carry a figure from desk 0
- * over desk 1 to desk 2, which has no right on the file that desk 0 writes.
+ * over desk 1 to desk 2, which has no right on the file that desk 0 writes. Then it asks for the routes between the desks.
  *
  * bin/host-example builds and runs it. With a C compiler on x86-64 Linux, after `rt staticlib host`:
  *     cc -Iinclude examples/host.c target/staticlib/libhost.a -o host && ./host
@@ -45,6 +45,19 @@ static void print_answer(const char *name, dw_answer answer)
     printf("\n");
 }
 
+static void print_route(dw_setup setup, uint32_t a, uint32_t b)
+{
+    static uint32_t room[DW_ROUTE_NUMBERS];
+    dw_answer answer = dw_route(setup, a, b, room, DW_ROUTE_NUMBERS);
+
+    if (answer.kind == DW_ROUTE)
+        printf("route\t%u\t%u\t%u calls\n", a, b, answer.value);
+    else if (answer.kind == DW_NO_ROUTE)
+        printf("route\t%u\t%u\tnone\n", a, b);
+    else
+        printf("route\t%u\t%u\trefused\t%u\n", a, b, answer.value);
+}
+
 int main(void)
 {
     dw_given_setup accepted = dw_accept(3, 2, 3, 2, rights, sizeof rights, desk_of, sizeof desk_of,
@@ -66,5 +79,8 @@ int main(void)
     /* No process 3 is in the setup: the call is refused, and the store stays as it was. */
     print_answer("read", dw_call_in_place(accepted.setup, &store, DW_READ, 3, 1, 0));
     printf("file 1 holds\t%u\n", store.figures[1]);
+    print_route(accepted.setup, 0, 2);
+    print_route(accepted.setup, 2, 0);
+    print_route(accepted.setup, 1, 1);
     return 0;
 }

@@ -20,7 +20,7 @@
  * may call at once, each on a store of its own. Structs by value lie on the stack: bench/run prints how
  * much of it each form of a call takes.
  *
- * The archive is for x86-64 Linux. It asks for nothing but C's memcpy.
+ * The archive is for x86-64 Linux. It asks for nothing but C's memcpy and memset.
  */
 #ifndef DIRGEWATER_H
 #define DIRGEWATER_H
@@ -64,6 +64,9 @@ extern "C" {
 #define DW_CALL_WIDTH 4
 #define DW_ANSWER_WIDTH 2
 
+/* Room for the list of a route: at most 61 calls. */
+#define DW_ROUTE_NUMBERS (61 * DW_CALL_WIDTH)
+
 /* ---- Rights, calls, answers. */
 
 /* A right is one of these. */
@@ -93,6 +96,10 @@ extern "C" {
 #define DW_NO 3      /* value 0 */
 #define DW_REFUSED 4 /* value: the refusal's number */
 
+/* What the route report answers, as a kind; DW_REFUSED is one too. */
+#define DW_NO_ROUTE 0 /* value 0 */
+#define DW_ROUTE 1    /* value: the number of calls written */
+
 /* ---- Refusals. Each is given exactly where its words hold and none earlier in the function's order does.
  *
  *    1  a setup count lies outside its sizes
@@ -106,11 +113,13 @@ extern "C" {
  *    9  COPY with x equal to f
  *   10  the lengths of a setup's runs do not match its counts; or a list's length is not a multiple
  *       of 4, or is above 4096
- *   11  room for answers shorter than two numbers a call
+ *   11  room for answers shorter than two numbers a call; or room for a route below 244 numbers
+ *   12  a route desk is the number of desks or more
+ *   13  the two route desks are equal
  *   15  a setup that could not have been accepted
  *   16  a store that does not fit its setup
  *
- * No function of this header gives 12, 13 or 14. */
+ * No function of this header gives 14. */
 
 /* ---- Structs. Fields lie in this order with nothing between them; every number is in the machine's order. */
 
@@ -195,6 +204,15 @@ dw_called dw_call(dw_setup setup, dw_store store, uint32_t op, uint32_t p, uint3
  * to 9. calls is only read. answers must not overlap it. */
 dw_listed dw_run(dw_setup setup, dw_store store, const uint32_t *calls, size_t calls_len,
                  uint32_t *answers, size_t answers_len);
+
+/* Whether desk b can ever hear desk a. DW_NO_ROUTE is answered exactly when, for every list of calls
+ * from a fresh store, striking out a's calls changes none of b's answers. Otherwise a list of calls that
+ * shows the difference is written to the front of room, four numbers a call, for dw_run: run from a
+ * fresh store it gives b a last answer of figure 1, and of figure 0 with a's calls struck out. It goes
+ * along the chain of fewest links, among those the one with the smallest desk at the first difference,
+ * and has 4k + 1 calls for k links. What lies past the list keeps its values.
+ * Refusals, in this order: 15, 12, 13, 11. A refusal, and DW_NO_ROUTE, write nothing. */
+dw_answer dw_route(dw_setup setup, uint32_t a, uint32_t b, uint32_t *room, size_t room_len);
 
 #ifdef __cplusplus
 }

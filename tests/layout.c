@@ -618,6 +618,61 @@ static void refused_lists_write_nothing(void)
     list_is_refused(s, m, 9, 0, 15);
 }
 
+/* ---- Routes. */
+
+/* The setup of document 01's trial: process n sits at desk n, file n has class n. */
+static dw_setup trial_setup(void)
+{
+    dw_setup s;
+
+    memset(&s, 0, sizeof s);
+    s.desks = s.processes = 3;
+    s.classes = s.files = 2;
+    s.rights[0] = DW_W;
+    s.rights[DW_CLASSES] = DW_R;
+    s.rights[DW_CLASSES + 1] = DW_W;
+    s.rights[2 * DW_CLASSES + 1] = DW_R;
+    for (uint8_t n = 0; n < 3; n++)
+        s.desk_of[n] = n;
+    s.class_of[1] = 1;
+    return s;
+}
+
+/* The report writes the list and not a number more; with len of 0 expected it writes nothing. */
+static void route_is(dw_setup s, uint32_t a, uint32_t b, size_t room_len, uint32_t kind, uint32_t value,
+                     const uint32_t *expected, uint32_t len)
+{
+    uint32_t *at = last_numbers(&room, room_len);
+
+    make_room();
+    CHECK(is_answer(dw_route(s, a, b, at, room_len), kind, value));
+    CHECK(memcmp(at, expected, len * sizeof at[0]) == 0);
+    room_is_untouched(0, (uint32_t)(at - room.numbers));
+    room_is_untouched((uint32_t)(at - room.numbers) + len, CALLS_LEN);
+    guards_stand();
+}
+
+/* Cases 9, 10 and 11 of document 01, and the other refusals in their order. */
+static void routes_keep_to_their_room(void)
+{
+    static const uint32_t two_links[] = {DW_LOCK,   0, 0, 0, DW_WRITE, 0, 0, 1, DW_UNLOCK, 0, 0, 0,
+                                         DW_OPEN,   1, 0, 0, DW_LOCK,  1, 1, 0, DW_COPY,   1, 0, 1,
+                                         DW_UNLOCK, 1, 1, 0, DW_OPEN,  2, 1, 0, DW_READ,   2, 1, 0};
+    static const uint32_t one_link[] = {DW_LOCK,   0, 0, 0, DW_WRITE, 0, 0, 1, DW_UNLOCK, 0, 0, 0,
+                                        DW_OPEN,   1, 0, 0, DW_READ,  1, 0, 0};
+    dw_setup s = trial_setup();
+
+    route_is(s, 0, 2, DW_ROUTE_NUMBERS, DW_ROUTE, 9, two_links, sizeof two_links / sizeof two_links[0]);
+    route_is(s, 0, 1, DW_ROUTE_NUMBERS + 5, DW_ROUTE, 5, one_link, sizeof one_link / sizeof one_link[0]);
+    route_is(s, 2, 0, DW_ROUTE_NUMBERS, DW_NO_ROUTE, 0, one_link, 0);
+    route_is(s, 1, 1, 0, DW_REFUSED, 13, one_link, 0);
+    route_is(s, 3, 3, 0, DW_REFUSED, 12, one_link, 0);
+    route_is(s, 0, 0xFFFFFFFFu, 0, DW_REFUSED, 12, one_link, 0);
+    route_is(s, 0, 2, DW_ROUTE_NUMBERS - 1, DW_REFUSED, 11, one_link, 0);
+    s.class_of[2] = 1;
+    route_is(s, 3, 3, 0, DW_REFUSED, 15, one_link, 0);
+}
+
 /* ---- */
 
 static const struct group {
@@ -637,6 +692,7 @@ static const struct group {
     {"a refused call changes nothing", refused_calls_change_nothing},
     {"a list keeps to its room", lists_keep_to_their_room},
     {"a refused list writes nothing", refused_lists_write_nothing},
+    {"a route keeps to its room", routes_keep_to_their_room},
 };
 
 int main(void)

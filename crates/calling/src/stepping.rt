@@ -8,20 +8,20 @@ use rules::Turn;
 ghost use mathlib.Core.Path.{_≡_};
 ghost use Prim.Native.Nat.{_<_};
 ghost use Rattle.rules.specs.Sizes.{mostProcesses};
-ghost use Rattle.rules.specs.Stores.{isFree, isHeldBy};
+ghost use Rattle.rules.specs.Stores.{unlocked, lockedBy};
 ghost use Rattle.rules.specs.Calls.{processOf, readOf, writtenTo, copiedTo, yesOrNo, freeFor, withHolder, withContent, withMark, turnOf, quiet};
 
 // What is asked of a file's holder.
 
-fn is_free(holder: u32) -> bool
-    ensures { λ r. ⌜ r ≡ isFree holder ⌝ }
+fn unlocked(holder: u32) -> bool
+    ensures { λ r. ⌜ r ≡ unlocked holder ⌝ }
 {
     holder == 0
 }
 
-fn is_held_by(holder: u32, p: u32) -> bool
+fn locked_by(holder: u32, p: u32) -> bool
     requires { ⌜ p < mostProcesses ⌝ }
-    ensures { λ r. ⌜ r ≡ isHeldBy holder p ⌝ }
+    ensures { λ r. ⌜ r ≡ lockedBy holder p ⌝ }
 {
     holder == p + 1
 }
@@ -30,7 +30,7 @@ fn free_for(holder: u32, p: u32) -> bool
     requires { ⌜ p < mostProcesses ⌝ }
     ensures { λ r. ⌜ r ≡ freeFor holder p ⌝ }
 {
-    is_free(holder) | is_held_by(holder, p)
+    unlocked(holder) | locked_by(holder, p)
 }
 
 // A sheet with one thing changed.
@@ -120,7 +120,7 @@ fn write(look: Looks, p: u32, f: u32, x: u32) -> Turn
     ensures { λ r. ⌜ r ≡ turnOf (Call.Write p f x) look ⌝ }
 {
     let target = look.target;
-    if look.w & is_held_by(target.holder, p) {
+    if look.w & locked_by(target.holder, p) {
         quiet(with_content(target, written_to(target.content, x)))
     } else {
         quiet(target)
@@ -132,7 +132,7 @@ fn lock(look: Looks, p: u32, f: u32) -> Turn
     ensures { λ r. ⌜ r ≡ turnOf (Call.Lock p f) look ⌝ }
 {
     let target = look.target;
-    if look.w & is_free(target.holder) {
+    if look.w & unlocked(target.holder) {
         quiet(with_holder(target, p + 1))
     } else {
         quiet(target)
@@ -144,7 +144,7 @@ fn unlock(look: Looks, p: u32, f: u32) -> Turn
     ensures { λ r. ⌜ r ≡ turnOf (Call.Unlock p f) look ⌝ }
 {
     let target = look.target;
-    if look.w & is_held_by(target.holder, p) {
+    if look.w & locked_by(target.holder, p) {
         quiet(with_holder(target, 0))
     } else {
         quiet(target)
@@ -156,7 +156,7 @@ fn open(look: Looks, p: u32, f: u32) -> Turn
     ensures { λ r. ⌜ r ≡ turnOf (Call.Open p f) look ⌝ }
 {
     let target = look.target;
-    if look.r & is_free(look.holder) {
+    if look.r & unlocked(look.holder) {
         quiet(with_mark(target, 1))
     } else {
         quiet(target)
@@ -181,7 +181,7 @@ fn testlock(look: Looks, p: u32, f: u32) -> Turn
 {
     let target = look.target;
     if look.r & look.w {
-        let answer = yes_or_no(is_held_by(look.holder, p));
+        let answer = yes_or_no(locked_by(look.holder, p));
         Turn {
             answer,
             sheet: target,
@@ -196,7 +196,7 @@ fn copy(look: Looks, p: u32, f: u32, x: u32) -> Turn
     ensures { λ r. ⌜ r ≡ turnOf (Call.Copy p f x) look ⌝ }
 {
     let target = look.target;
-    if look.r & look.w & look.opened & free_for(look.holder, p) & is_held_by(target.holder, p) {
+    if look.r & look.w & look.opened & free_for(look.holder, p) & locked_by(target.holder, p) {
         quiet(with_content(target, copied_to(target.content, look.content)))
     } else {
         quiet(target)

@@ -1,4 +1,4 @@
--- The laws of chains, for every setup.
+-- The laws of chains.
 pub mod Lowest
 pub mod Before
 pub mod Chains

@@ -32,7 +32,7 @@ isChain s a b (d ∷ rest) = linked s a d && isChain s d b rest
 abbrev pub deskAt : ℕ → List ℕ → ℕ → ℕ
 deskAt a xs i = getD (a ∷ xs) i 0
 
--- "A route is a chain of links from A to B"
+-- "A route is a chain of links from A to B"; the chain with no link leads from a desk to itself, a pair that refusal 13 rules out
 pub record HasRoute (s : Setup) (a b : ℕ) : Type 0 where
   pub through : List ℕ
   pub chain : isChain s a b through ≡ true

@@ -17,7 +17,7 @@ use Rattle.chains.proofs.Chains.{chain-first}
 use Rattle.chains.proofs.Enough.{fewest-lt}
 use Rattle.chains.proofs.Acts.{ActsBy, link-acts}
 use Rattle.demand.specs.Routes.{onward, routeCalls, callsFor}
-use Rattle.demand.specs.Heard.{Is32}
+use Rattle.rules.specs.Calls.{Is32}
 
 -- from a desk on there is one call more than its links ask for, the OPEN of the link before it
 onward-length : (s : Setup) (d f : ℕ) (rest : List ℕ) → length (onward s d f rest) ≡ callsFor (length rest) + 1

@@ -1,27 +1,16 @@
 -- What a desk hears: the answers to its calls from a fresh store, with another desk's calls and without them.
-use Prim.Native.Nat.{ℕ, _≤_}
+use Prim.Native.Nat.{ℕ}
 use mathlib.Core.Path.{_≡_}
 use mathlib.Core.List.{List, [], _∷_}
 use Rattle.secrecy.specs.Machine.{answersTo}
 use Rattle.secrecy.specs.Strike.{strikeDesk}
 use Rattle.secrecy.specs.Sets.{Every}
 use Rattle.rules.specs.Stores.{freshStore}
-use Rattle.rules.specs.Calls.{Numbers}
+use Rattle.rules.specs.Calls.{Numbers, Is32}
 use Rattle.rules.specs.declared.Setup.{Setup}
 use Rattle.rules.specs.declared.Answer.{Answer}
 use Rattle.rules.specs.declared.Answer.the-variants.{Nothing, Figure}
 use Rattle.views.specs.Machine.{machine}
-
--- the largest of the 32-bit numbers: "0 to 4,294,967,295"
-abbrev pub mostNumber : ℕ
-mostNumber = 4_294_967_295
-
--- "A call is four 32-bit numbers"
-pub record Is32 (n : Numbers) : Type 0 where
-  pub operation : n .operation ≤ mostNumber
-  pub process : n .process ≤ mostNumber
-  pub file : n .file ≤ mostNumber
-  pub extra : n .extra ≤ mostNumber
 
 -- all answers to desk b's calls from a fresh store, refusals among them
 abbrev pub heard : Setup → ℕ → List Numbers → List Answer

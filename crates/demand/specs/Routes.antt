@@ -32,7 +32,7 @@ onward s d f (e ∷ rest) =
     let g = fileFor s d e in
     openCall p f ∷ lockCall p g ∷ copyCall p f g ∷ unlockCall p g ∷ onward s e g rest
 
--- "A's LOCK, WRITE of 1, UNLOCK", and so on along the chain; a chain with no link is no route
+-- "A's LOCK, WRITE of 1, UNLOCK", and so on along the chain; a chain with no link has no calls
 unfoldable pub routeCalls : Setup → ℕ → List ℕ → List Numbers
 routeCalls s a [] = []
 routeCalls s a (d ∷ rest) =

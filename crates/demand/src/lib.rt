@@ -1,1 +1,1 @@
-// Demand 3: what a desk hears of another exactly where a route runs. Definitions in specs/, laws in proofs/, no function.
+// Demand 3: that a desk hears another exactly where a route runs. Definitions in specs/, laws in proofs/, no function.

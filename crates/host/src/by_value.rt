@@ -7,6 +7,8 @@ use judging::fitting::fresh;
 use judging::fitting::judge;
 use lists::ListAnswer;
 use lists::running::run;
+use routes::RouteAnswer;
+use routes::report::report;
 use rules::GivenSetup;
 use rules::GivenStore;
 use rules::Setup;
@@ -17,7 +19,11 @@ ghost use Rattle.rules.specs.Calls.{numbers};
 ghost use Rattle.rules.specs.Answers.{kindOf, valueOf};
 ghost use Rattle.rules.specs.Refusals.{judgeRefusal};
 ghost use Rattle.rules.specs.Entries.{acceptance, freshness, called};
+ghost use lib.ListN.{length};
 ghost use Rattle.lists.specs.Lists.{listed, roomAfter, listNumbersOf};
+ghost use Rattle.routes.specs.Reports.{routed, routeNumbersOf};
+ghost use Rattle.routes.specs.Reports as route;
+ghost use Rattle.routes.specs.Demand3.{Demand3};
 
 // Entry: the setup that the counts and the slices give, or their refusal.
 #[no_mangle]
@@ -84,4 +90,26 @@ pub extern "C" fn dw_run(setup: Setup, store: Store, calls: &[u32], answers: &mu
         numbered,
         store: next,
     }
+}
+
+fn route_numbers_of(answer: RouteAnswer) -> Numbered
+    ensures { λ r. ⌜ (r .kind ≡ routeNumbersOf answer .0) × (r .value ≡ routeNumbersOf answer .1) ⌝ }
+{
+    match answer {
+        RouteAnswer::NoRoute => Numbered { kind: 0, value: 0 },
+        RouteAnswer::Route(value) => Numbered { kind: 1, value },
+        RouteAnswer::Refused(value) => Numbered { kind: 4, value },
+    }
+}
+
+// Entry: whether desk a can be heard by desk b, and the list of calls that shows it.
+#[no_mangle]
+pub extern "C" fn dw_route(setup: Setup, a: u32, b: u32, room: &mut [u32]) -> Numbered
+    ensures { λ r. let n = routeNumbersOf (routed setup a b (length (now (room .entry)))) in
+        ⌜ (r .kind ≡ n .0) × (r .value ≡ n .1) ⌝ }
+    ensures room { λ _. ⌜ now (room .exit) ≡ route.roomAfter setup a b (now (room .entry)) ⌝ }
+    ensures demand3 { λ _. ⌜ Demand3 setup a b (routed setup a b (length (now (room .entry)))) (now (room .exit)) ⌝ }
+{
+    let answer = report(setup, a, b, room);
+    route_numbers_of(answer)
 }

@@ -8,7 +8,7 @@ ghost use Rattle.rules.specs.Calls.{numbers};
 ghost use Rattle.rules.specs.Answers.{kindOf, valueOf};
 ghost use Rattle.rules.specs.Entries.{called};
 
-// The store is copied out, the call made by value, and the next store put where the old one lay.
+// Entry: one call in place. The store is copied out, the call made by value, and the next store put where the old one lay.
 #[no_mangle]
 pub extern "C" fn dw_call_in_place(
     setup: Setup,

@@ -263,7 +263,7 @@ pub fn fresh(setup: Setup) -> GivenStore
     ensures { λ r. ⌜ r ≡ freshness setup ⌝ }
 {
     if !accepted(setup) {
-        // A mark of 2 is neither open nor shut, so this store fits no setup.
+        // A mark of 2 is neither 0 nor 1, so this store fits no setup.
         let store = store_of(2);
         return GivenStore { refusal: 15, store };
     }

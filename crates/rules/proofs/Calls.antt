@@ -10,7 +10,7 @@ use lib.Dec.{ltb}
 use lib.Seq.{set-getD, set-set}
 use Rattle.rules.specs.Sizes.{mostProcesses}
 use Rattle.rules.specs.Setups.{mayRead, mayWrite, accepted}
-use Rattle.rules.specs.Stores.{isFree, isHeldBy, blankContent, holderOf, markAt, sheetOf, withSheet, holderFits, markFits, fits}
+use Rattle.rules.specs.Stores.{unlocked, lockedBy, blankContent, holderOf, markAt, sheetOf, withSheet, holderFits, markFits, fits}
 use Rattle.rules.specs.Calls.{processOf, changeable, targetOf, goesThrough, effect, says, answerTo, nextStore}
 use Rattle.rules.specs.declared.Setup.{Setup}
 use Rattle.rules.specs.declared.Sheet.{Sheet}
@@ -36,7 +36,7 @@ holder-fits-by : (s : Setup) (f p : ℕ) → p < s .processes → mayWrite s p f
 unfolding holderFits
 holder-fits-by s f p l w =
     let q : p + 1 - 1 ≡ p = omega arith in
-    rw (q, lt-ltb p (s .processes) l, w) (or-true (isFree (p + 1)))
+    rw (q, lt-ltb p (s .processes) l, w) (or-true (unlocked (p + 1)))
 
 mark-fits-by : (s : Setup) (f p : ℕ) → p < s .processes → mayRead s p f ≡ true → markFits s f p 1 ≡ true
 unfolding markFits
@@ -159,7 +159,7 @@ open-twice s m p f =
         }
 
 -- "OPEN of a file that p itself has locked does not go through"
-pub open-own-locked : (s : Setup) (m : Store) (p f : ℕ) → isHeldBy (holderOf m f) p ≡ true → goesThrough s m (Open p f) ≡ false
+pub open-own-locked : (s : Setup) (m : Store) (p f : ℕ) → lockedBy (holderOf m f) p ≡ true → goesThrough s m (Open p f) ≡ false
 unfolding goesThrough
 open-own-locked s m p f e =
     let held = eqb-true (holderOf m f) (p + 1) e in

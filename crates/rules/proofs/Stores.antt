@@ -10,7 +10,7 @@ use lib.Dec.{ltb, eqb}
 use lib.ListN.{length, set}
 use lib.Seq.{set-getD, set-out, getD-set-same, getD-set-other}
 use Rattle.rules.specs.Sizes.{mostProcesses, mostFiles, mostMarks, every}
-use Rattle.rules.specs.Stores.{isFree, isBlank, blankContent, holderOf, contentOf, markAt, markOf, sheetOf, withSheet, freshStore, holderFits, markFits, marksFit, fileIsBlank, fileFits, fits, misfit}
+use Rattle.rules.specs.Stores.{unlocked, isBlank, blankContent, holderOf, contentOf, markAt, markOf, sheetOf, withSheet, freshStore, holderFits, markFits, marksFit, fileIsBlank, fileFits, fits, misfit}
 use Rattle.rules.specs.declared.Setup.{Setup}
 use Rattle.rules.specs.declared.Content.{Content}
 use Rattle.rules.specs.declared.Sheet.{Sheet}
@@ -26,7 +26,7 @@ markAt-apart f g p q k l e = (omega arith, omega arith)
 pub record FileFits (s : Setup) (f holder : ℕ) (content : Content) (marks : ℕ → ℕ) : Type 0 where
   pub holder-fits : f < s .files → holderFits s f holder ≡ true
   pub mark-fits : f < s .files → (p : ℕ) → p < mostProcesses → markFits s f p (marks p) ≡ true
-  pub holder-blank : s .files ≤ f → isFree holder ≡ true
+  pub holder-blank : s .files ≤ f → unlocked holder ≡ true
   pub mark-blank : s .files ≤ f → (p : ℕ) → p < mostProcesses → eqb (marks p) 0 ≡ true
   pub content-blank : s .files ≤ f → isBlank content ≡ true
 
@@ -43,12 +43,12 @@ module _ (s : Setup) (f holder : ℕ) (content : Content) (marks : ℕ → ℕ) 
   unfolding fileFits
   fileFits-past l = rw (le-ltb f (s .files) l)
 
-  all-blank : fileIsBlank holder content marks ≡ true → (isFree holder ≡ true) × (every mostProcesses (λ p. eqb (marks p) 0) ≡ true) × (isBlank content ≡ true)
+  all-blank : fileIsBlank holder content marks ≡ true → (unlocked holder ≡ true) × (every mostProcesses (λ p. eqb (marks p) 0) ≡ true) × (isBlank content ≡ true)
   unfolding fileIsBlank
   all-blank e =
       let none = every mostProcesses (λ p. eqb (marks p) 0) in
-      let (two, c) = and-eq-true-iff (isFree holder && none) (isBlank content) .0 e in
-      let (h, k) = and-eq-true-iff (isFree holder) none .0 two in
+      let (two, c) = and-eq-true-iff (unlocked holder && none) (isBlank content) .0 e in
+      let (h, k) = and-eq-true-iff (unlocked holder) none .0 two in
       (h, k, c)
 
   pub fileFits-tells : fileFits s f holder content marks ≡ true → FileFits s f holder content marks
@@ -89,7 +89,7 @@ fits-withSheet s m p f sheet b x e h k =
           λ c q d.
           set-holds (λ (n : ℕ). markFits s g q n ≡ true) (m .marks) (markAt f p) (markAt g q) (sheet .mark) 0 (old .mark-fits c q d)
           (λ i. let (same, own) = markAt-apart g f q p d b i in rw (same, own) k);
-      holder-blank = λ c. set-holds (λ (n : ℕ). isFree n ≡ true) (m .holders) f g (sheet .holder) 0 (old .holder-blank c) (λ q. absurd (omega arith));
+      holder-blank = λ c. set-holds (λ (n : ℕ). unlocked n ≡ true) (m .holders) f g (sheet .holder) 0 (old .holder-blank c) (λ q. absurd (omega arith));
       mark-blank =
           λ c q d.
           set-holds (λ (n : ℕ). eqb n 0 ≡ true) (m .marks) (markAt f p) (markAt g q) (sheet .mark) 0 (old .mark-blank c q d)

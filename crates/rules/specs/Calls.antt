@@ -1,10 +1,11 @@
 -- 01, "The eight calls": when each goes through, its effect, and its answer.
-use Prim.Native.Nat.{ℕ, _+_, _-_}
+use Prim.Native.Nat.{ℕ, _+_, _-_, _≤_}
 use mathlib.Core.Bool.{Bool, _&&_, _||_, cond}
 use mathlib.Core.List.{List, [], _∷_}
 use lib.ListN.{getD}
+use Rattle.rules.specs.Sizes.{mostNumber}
 use Rattle.rules.specs.Setups.{mayRead, mayWrite}
-use Rattle.rules.specs.Stores.{isFree, isHeldBy, isOpen, holderOf, contentOf, markOf, sheetOf, unlocked, lockedBy, withSheet}
+use Rattle.rules.specs.Stores.{unlocked, lockedBy, isOpen, holderOf, contentOf, markOf, sheetOf, withSheet}
 use Rattle.rules.specs.declared.Setup.{Setup}
 use Rattle.rules.specs.declared.Content.{Content}
 use Rattle.rules.specs.declared.Sheet.{Sheet}
@@ -25,6 +26,13 @@ pub record Numbers : Type 0 where
 
 abbrev pub numbers : ℕ → ℕ → ℕ → ℕ → Numbers
 numbers operation p f x = record { operation = operation; process = p; file = f; extra = x }
+
+-- numbers that a list can hold: each is a 32-bit number
+pub record Is32 (n : Numbers) : Type 0 where
+  pub operation : n .operation ≤ mostNumber
+  pub process : n .process ≤ mostNumber
+  pub file : n .file ≤ mostNumber
+  pub extra : n .extra ≤ mostNumber
 
 -- the column "Code": the calls of codes 1 to 8, in their order
 abbrev pub calls : ℕ → ℕ → ℕ → List Call
@@ -90,7 +98,7 @@ changeable (Copy p f x) = x
 
 -- "f unlocked or locked by p"
 abbrev pub freeFor : ℕ → ℕ → Bool
-freeFor holder p = isFree holder || isHeldBy holder p
+freeFor holder p = unlocked holder || lockedBy holder p
 
 -- the sheet of the file that a call can change, as its process meets it
 abbrev pub targetOf : Store → Call → Sheet
@@ -112,13 +120,13 @@ looksAt s m call =
 -- the column "Goes through when"
 abbrev pub goes : Call → Looks → Bool
 goes (Read p f) k = k .r && k .opened && freeFor (k .holder) p
-goes (Write p f x) k = k .w && lockedBy (k .target) p
-goes (Lock p f) k = k .w && unlocked (k .target)
-goes (Unlock p f) k = k .w && lockedBy (k .target) p
-goes (Open p f) k = k .r && isFree (k .holder)
+goes (Write p f x) k = k .w && lockedBy (k .target .holder) p
+goes (Lock p f) k = k .w && unlocked (k .target .holder)
+goes (Unlock p f) k = k .w && lockedBy (k .target .holder) p
+goes (Open p f) k = k .r && unlocked (k .holder)
 goes (Close p f) k = k .r && k .opened
 goes (Testlock p f) k = k .r && k .w
-goes (Copy p f x) k = k .r && k .w && k .opened && freeFor (k .holder) p && lockedBy (k .target) p
+goes (Copy p f x) k = k .r && k .w && k .opened && freeFor (k .holder) p && lockedBy (k .target .holder) p
 
 abbrev pub withHolder : Sheet → ℕ → Sheet
 withHolder sheet h = record { holder = h; content = sheet .content; mark = sheet .mark }
@@ -151,7 +159,7 @@ tells (Lock p f) holder content = Nothing
 tells (Unlock p f) holder content = Nothing
 tells (Open p f) holder content = Nothing
 tells (Close p f) holder content = Nothing
-tells (Testlock p f) holder content = yesOrNo (isHeldBy holder p)
+tells (Testlock p f) holder content = yesOrNo (lockedBy holder p)
 tells (Copy p f x) holder content = Nothing
 
 -- the two columns on a setup and a store

@@ -61,7 +61,7 @@ refusal6 s n = leb (s .processes) (n .process) gives 6
 abbrev pub refusal7 : Setup → Numbers → Refusal
 refusal7 s n = leb (s .files) (n .file) || eqb (n .operation) codeOfCopy && leb (s .files) (n .extra) gives 7
 
--- "x is not 0, for codes 1 and 3 to 7"
+-- "x is not 0, for codes 1 and 3 to 7"; numbers that are no code were refused with 5 before
 abbrev pub refusal8 : Numbers → Refusal
 refusal8 n = not (eqb (n .operation) codeOfWrite || eqb (n .operation) codeOfCopy) && not (eqb (n .extra) 0) gives 8
 

@@ -93,7 +93,7 @@ setupBytes desks classes processes files rights desk class =
       class = class;
     }
 
--- the right at desk d and class t of rights given row by desk; 0 past the counts
+-- the right at desk d and class t of rights given row by desk; 0 past the classes, and past the slice's end
 unfoldable pub givenRight : List ℕ → ℕ → ℕ → ℕ → ℕ
 givenRight rights classes d t = cond (ltb t classes) (getD rights (d * classes + t) 0) 0
 

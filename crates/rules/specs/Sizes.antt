@@ -25,6 +25,10 @@ mostRights = mostDesks * mostClasses
 abbrev pub mostMarks : ℕ
 mostMarks = mostFiles * mostProcesses
 
+-- "A figure is 0 to 4,294,967,295": the largest of the 32-bit numbers
+abbrev pub mostNumber : ℕ
+mostNumber = 4_294_967_295
+
 -- a count lies inside its sizes
 abbrev pub within : ℕ → ℕ → Bool
 within count most = leb least count && leb count most

@@ -18,11 +18,11 @@ abbrev pub isBlank : Content → Bool
 isBlank content = eqb (content .figure) 0
 
 -- a file's holder is 0 where it is unlocked, else the process plus one; an open mark is 1
-abbrev pub isFree : ℕ → Bool
-isFree holder = eqb holder 0
+abbrev pub unlocked : ℕ → Bool
+unlocked holder = eqb holder 0
 
-abbrev pub isHeldBy : ℕ → ℕ → Bool
-isHeldBy holder p = eqb holder (p + 1)
+abbrev pub lockedBy : ℕ → ℕ → Bool
+lockedBy holder p = eqb holder (p + 1)
 
 abbrev pub isOpen : ℕ → Bool
 isOpen mark = eqb mark 1
@@ -45,12 +45,6 @@ markOf m f p = getD (m .marks) (markAt f p) 0
 abbrev pub sheetOf : Store → ℕ → ℕ → Sheet
 sheetOf m p f = record { holder = holderOf m f; content = contentOf m f; mark = markOf m f p }
 
-abbrev pub unlocked : Sheet → Bool
-unlocked sheet = isFree (sheet .holder)
-
-abbrev pub lockedBy : Sheet → ℕ → Bool
-lockedBy sheet p = isHeldBy (sheet .holder) p
-
 -- the store with another sheet for process p and file f
 abbrev pub withSheet : Store → ℕ → ℕ → Sheet → Store
 withSheet m p f sheet =
@@ -71,7 +65,7 @@ freshStore = storeOf 0
 
 -- "each locked file is held by an existing process whose desk has W on the file's class"
 unfoldable pub holderFits : Setup → ℕ → ℕ → Bool
-holderFits s f holder = isFree holder || ltb (holder - 1) (s .processes) && mayWrite s (holder - 1) f
+holderFits s f holder = unlocked holder || ltb (holder - 1) (s .processes) && mayWrite s (holder - 1) f
 
 -- "each process that has a file open exists and its desk has R on that class"; a mark is 0 or 1
 unfoldable pub markFits : Setup → ℕ → ℕ → ℕ → Bool
@@ -83,7 +77,7 @@ marksFit s f marks = every mostProcesses (λ p. markFits s f p (marks p))
 
 -- "entries past F are unlocked, unopened and 0"
 unfoldable pub fileIsBlank : ℕ → Content → (ℕ → ℕ) → Bool
-fileIsBlank holder content marks = isFree holder && every mostProcesses (λ p. eqb (marks p) 0) && isBlank content
+fileIsBlank holder content marks = unlocked holder && every mostProcesses (λ p. eqb (marks p) 0) && isBlank content
 
 -- a file before F fits by its holder and its marks
 unfoldable pub fileFits : Setup → ℕ → ℕ → Content → (ℕ → ℕ) → Bool

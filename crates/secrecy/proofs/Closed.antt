@@ -1,4 +1,5 @@
 -- Closed sets: where no link runs from a desk of H to a desk of L, striking out acts of H changes no answer to L.
+-- Assumes nothing.
 use Prim.Native.Nat.{ℕ}
 use mathlib.Core.Path.{_≡_, refl, sym, _∙_, subst}
 use mathlib.Core.Logic.{inl, inr}

@@ -1,4 +1,5 @@
 -- The laws of a list that has one more in front where a test passes.
+-- Assumes nothing.
 use Prim.Native.Nat.{ℕ, suc, _≤_}
 use native.Mathlib.Omega.{arith}
 use mathlib.Core.Path.{_≡_, refl}

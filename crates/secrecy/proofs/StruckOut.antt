@@ -1,4 +1,5 @@
 -- The laws of striking out: it keeps exactly the acts that fail the test, in order.
+-- Assumes nothing.
 use Prim.Native.Nat.{ℕ, _≤_}
 use native.Mathlib.Omega.{arith}
 use mathlib.Core.Path.{_≡_, refl, ap}

@@ -12,8 +12,8 @@ use Rattle.calling.proofs.stepping.copy.Tie as tie
 free-for-requires : tie.Need-free-for-requires
 free-for-requires c κs = search needs
 
-is-held-by-requires : tie.Need-is-held-by-requires
-is-held-by-requires c κs = search needs
+locked-by-requires : tie.Need-locked-by-requires
+locked-by-requires c κs = search needs
 
 copied-to-requires : tie.Need-copied-to-requires
 copied-to-requires c κs = search needs
@@ -28,8 +28,8 @@ quiet-requires-2 : tie.Need-quiet-requires-2
 quiet-requires-2 c κs = search needs
 
 -- the test is the rule's condition
-asked : (c : tie.After-is-held-by) → (let a = c .before .before .before .before .before .args in (a .look .r && a .look .w && a .look .opened && c .before .free-for .result && c .is-held-by .result) ≡ goes (Copy (a .p) (a .f) (a .x)) (a .look))
-asked c = simp (c .before .free-for .ensures, c .is-held-by .ensures)
+asked : (c : tie.After-locked-by) → (let a = c .before .before .before .before .before .args in (a .look .r && a .look .w && a .look .opened && c .before .free-for .result && c .locked-by .result) ≡ goes (Copy (a .p) (a .f) (a .x)) (a .look))
+asked c = simp (c .before .free-for .ensures, c .locked-by .ensures)
 
 returns : tie.Need-returns
 returns c = let a = c .before .before .before .before .before .before .before .before .before .args in rw (turn-goes (Copy (a .p) (a .f) (a .x)) (a .look) (sym (asked (c .before .before .before .before)) ∙ c .before .before .before .if1 .taken)) (simp (c .quiet .ensures, c .before .with-content .ensures, c .before .before .copied-to .ensures))
@@ -42,7 +42,7 @@ copy-spec =
     tie.close
     (tie.spec
     free-for-requires
-    is-held-by-requires
+    locked-by-requires
     copied-to-requires
     with-content-requires
     quiet-requires

@@ -9,8 +9,8 @@ use Rattle.rules.proofs.Turns.{turn-goes, turn-stays}
 use Rattle.calling.proofs.stepping.lock.Statement.{statement}
 use Rattle.calling.proofs.stepping.lock.Tie as tie
 
-is-free-requires : tie.Need-is-free-requires
-is-free-requires c κs = search needs
+unlocked-requires : tie.Need-unlocked-requires
+unlocked-requires c κs = search needs
 
 add-with-holder : tie.Need-add-with-holder
 add-with-holder c = search needs
@@ -25,8 +25,8 @@ quiet-requires-2 : tie.Need-quiet-requires-2
 quiet-requires-2 c κs = search needs
 
 -- the test is the rule's condition
-asked : (c : tie.After-struct-known) → (let a = c .before .before .before .args in (a .look .w && c .before .is-free .result) ≡ goes (Lock (a .p) (a .f)) (a .look))
-asked c = simp (c .before .is-free .ensures)
+asked : (c : tie.After-struct-known) → (let a = c .before .before .before .args in (a .look .w && c .before .unlocked .result) ≡ goes (Lock (a .p) (a .f)) (a .look))
+asked c = simp (c .before .unlocked .ensures)
 
 returns : tie.Need-returns
 returns c = let a = c .before .before .before .before .before .before .args in rw (turn-goes (Lock (a .p) (a .f)) (a .look) (sym (asked (c .before .before .before)) ∙ c .before .before .if1 .taken)) (simp (c .quiet .ensures, c .before .with-holder .ensures))
@@ -38,7 +38,7 @@ pub lock-spec : {M : Type 1} → statement M
 lock-spec =
     tie.close
     (tie.spec
-    is-free-requires
+    unlocked-requires
     add-with-holder
     with-holder-requires
     quiet-requires

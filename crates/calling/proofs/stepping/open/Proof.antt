@@ -9,8 +9,8 @@ use Rattle.rules.proofs.Turns.{turn-goes, turn-stays}
 use Rattle.calling.proofs.stepping.open.Statement.{statement}
 use Rattle.calling.proofs.stepping.open.Tie as tie
 
-is-free-requires : tie.Need-is-free-requires
-is-free-requires c κs = search needs
+unlocked-requires : tie.Need-unlocked-requires
+unlocked-requires c κs = search needs
 
 with-mark-requires : tie.Need-with-mark-requires
 with-mark-requires c κs = search needs
@@ -22,8 +22,8 @@ quiet-requires-2 : tie.Need-quiet-requires-2
 quiet-requires-2 c κs = search needs
 
 -- the test is the rule's condition
-asked : (c : tie.After-struct-known) → (let a = c .before .before .before .args in (a .look .r && c .before .is-free .result) ≡ goes (Open (a .p) (a .f)) (a .look))
-asked c = simp (c .before .is-free .ensures)
+asked : (c : tie.After-struct-known) → (let a = c .before .before .before .args in (a .look .r && c .before .unlocked .result) ≡ goes (Open (a .p) (a .f)) (a .look))
+asked c = simp (c .before .unlocked .ensures)
 
 returns : tie.Need-returns
 returns c = let a = c .before .before .before .before .before .before .args in rw (turn-goes (Open (a .p) (a .f)) (a .look) (sym (asked (c .before .before .before)) ∙ c .before .before .if1 .taken)) (simp (c .quiet .ensures, c .before .with-mark .ensures))
@@ -35,7 +35,7 @@ pub open-spec : {M : Type 1} → statement M
 open-spec =
     tie.close
     (tie.spec
-    is-free-requires
+    unlocked-requires
     with-mark-requires
     quiet-requires
     quiet-requires-2

@@ -9,8 +9,8 @@ use Rattle.rules.proofs.Turns.{turn-goes, turn-stays}
 use Rattle.calling.proofs.stepping.unlock.Statement.{statement}
 use Rattle.calling.proofs.stepping.unlock.Tie as tie
 
-is-held-by-requires : tie.Need-is-held-by-requires
-is-held-by-requires c κs = search needs
+locked-by-requires : tie.Need-locked-by-requires
+locked-by-requires c κs = search needs
 
 with-holder-requires : tie.Need-with-holder-requires
 with-holder-requires c κs = search needs
@@ -22,8 +22,8 @@ quiet-requires-2 : tie.Need-quiet-requires-2
 quiet-requires-2 c κs = search needs
 
 -- the test is the rule's condition
-asked : (c : tie.After-struct-known) → (let a = c .before .before .before .args in (a .look .w && c .before .is-held-by .result) ≡ goes (Unlock (a .p) (a .f)) (a .look))
-asked c = simp (c .before .is-held-by .ensures)
+asked : (c : tie.After-struct-known) → (let a = c .before .before .before .args in (a .look .w && c .before .locked-by .result) ≡ goes (Unlock (a .p) (a .f)) (a .look))
+asked c = simp (c .before .locked-by .ensures)
 
 returns : tie.Need-returns
 returns c = let a = c .before .before .before .before .before .before .args in rw (turn-goes (Unlock (a .p) (a .f)) (a .look) (sym (asked (c .before .before .before)) ∙ c .before .before .if1 .taken)) (simp (c .quiet .ensures, c .before .with-holder .ensures))
@@ -35,7 +35,7 @@ pub unlock-spec : {M : Type 1} → statement M
 unlock-spec =
     tie.close
     (tie.spec
-    is-held-by-requires
+    locked-by-requires
     with-holder-requires
     quiet-requires
     quiet-requires-2

@@ -9,8 +9,8 @@ use Rattle.rules.proofs.Turns.{turn-goes, turn-stays}
 use Rattle.calling.proofs.stepping.write.Statement.{statement}
 use Rattle.calling.proofs.stepping.write.Tie as tie
 
-is-held-by-requires : tie.Need-is-held-by-requires
-is-held-by-requires c κs = search needs
+locked-by-requires : tie.Need-locked-by-requires
+locked-by-requires c κs = search needs
 
 written-to-requires : tie.Need-written-to-requires
 written-to-requires c κs = search needs
@@ -25,8 +25,8 @@ quiet-requires-2 : tie.Need-quiet-requires-2
 quiet-requires-2 c κs = search needs
 
 -- the test is the rule's condition
-asked : (c : tie.After-struct-known) → (let a = c .before .before .before .args in (a .look .w && c .before .is-held-by .result) ≡ goes (Write (a .p) (a .f) (a .x)) (a .look))
-asked c = simp (c .before .is-held-by .ensures)
+asked : (c : tie.After-struct-known) → (let a = c .before .before .before .args in (a .look .w && c .before .locked-by .result) ≡ goes (Write (a .p) (a .f) (a .x)) (a .look))
+asked c = simp (c .before .locked-by .ensures)
 
 returns : tie.Need-returns
 returns c = let a = c .before .before .before .before .before .before .before .args in rw (turn-goes (Write (a .p) (a .f) (a .x)) (a .look) (sym (asked (c .before .before .before .before)) ∙ c .before .before .before .if1 .taken)) (simp (c .quiet .ensures, c .before .with-content .ensures, c .before .before .written-to .ensures))
@@ -38,7 +38,7 @@ pub write-spec : {M : Type 1} → statement M
 write-spec =
     tie.close
     (tie.spec
-    is-held-by-requires
+    locked-by-requires
     written-to-requires
     with-content-requires
     quiet-requires

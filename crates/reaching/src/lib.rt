@@ -1,0 +1,4 @@
+// How desks reach each other: the process a desk acts by, the file a link uses, and in how few links a desk is reached.
+pub mod acts;
+pub mod leading;
+pub mod nearing;

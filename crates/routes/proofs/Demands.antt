@@ -1,0 +1,93 @@
+-- Demand 3: what the route report answers and writes is what it promises of the two desks.
+-- Assumes nothing.
+use Prim.Native.Nat.{ℕ, zero, suc, _*_, _<_, _≤_}
+use mathlib.Core.Path.{_≡_, refl, ap, sym, _∙_}
+use mathlib.Core.Logic.{_↔_, _≢_}
+use mathlib.Core.List.{List, _++_}
+use native.Mathlib.Omega.{arith}
+use borrow.Author.Tests.{ltb-true, ltb-false}
+use lib.Dec.{ltb}
+use lib.ListN.{length, take}
+use lib.Seq.{take-at}
+use Rattle.rules.specs.Sizes.{mostDesks}
+use Rattle.rules.specs.declared.Setup.{Setup}
+use Rattle.rules.proofs.Lists.{by-test}
+use Rattle.rules.proofs.Setups.{accepted-sizes}
+use Rattle.lists.specs.Lists.{callWidth, callsOf}
+use Rattle.chains.specs.Chains.{HasRoute, far, linksTo, chainOf}
+use Rattle.chains.proofs.Chains.{some-link}
+use Rattle.chains.proofs.Walk.{chainOf-length}
+use Rattle.chains.proofs.Enough.{linksTo-iff, report-takes}
+use Rattle.demand.specs.Routes.{routeCalls, callsFor}
+use Rattle.demand.specs.Heard.{Unheard}
+use Rattle.demand.proofs.Routes.{routeCalls-length}
+use Rattle.demand.proofs.Exactly.{report-shows, exactly}
+use Rattle.routes.specs.Reports.{routeRefusal, routed, inQuads, roomAfter}
+use Rattle.routes.specs.Demand3.{ShownBy, Demand3}
+use Rattle.routes.specs.declared.RouteAnswer.the-variants.{NoRoute}
+use Rattle.routes.proofs.Quads.{inQuads-length, calls-of-quads}
+use Rattle.routes.proofs.Reports.{Sound, route-sound, routed-refused, room-refused, routed-none, routed-shown, room-shown}
+
+-- what follows where no refusal is given and where one is follows
+by-refusal : {C : Type 0} (n : ℕ) → (n ≡ 0 → C) → (n ≢ 0 → C) → C
+by-refusal zero f g = f refl
+by-refusal (suc n) f g = g (λ e. omega arith)
+
+module _ (s : Setup) (a b : ℕ) {n : ℕ} (h : Sound s a b n) where
+  is-desk : a < mostDesks
+  is-desk = omega (arith, h .from, accepted-sizes s (h .setup) .of-desks .high)
+
+  -- the number of links tells whether desk b can hear desk a
+  far-unheard : far ≤ linksTo s b a → Unheard s a b
+  far-unheard g = exactly s (h .setup) a b is-desk (h .apart) .1 (λ r. omega (arith, linksTo-iff s (h .setup) a b is-desk .1 r))
+
+  near-route : linksTo s b a < far → HasRoute s a b
+  near-route = linksTo-iff s (h .setup) a b is-desk .0
+
+  near-heard : linksTo s b a < far → ¬ Unheard s a b
+  near-heard g u = exactly s (h .setup) a b is-desk (h .apart) .0 u (near-route g)
+
+  -- the chain that the report takes has a link, so the list along it has the calls that the report says
+  calls-counted : linksTo s b a < far → length (routeCalls s a (chainOf s a b)) ≡ callsFor (linksTo s b a)
+  calls-counted g =
+      let t = report-takes s (h .setup) a b is-desk (near-route g) in
+      routeCalls-length s a (chainOf s a b) (some-link s a b (chainOf s a b) (t .of-fewest .chain) (h .apart)) ∙ ap callsFor (chainOf-length s a b)
+
+  -- the list at the front of a room shows the route
+  front-shows : linksTo s b a < far → (rest : List ℕ) → ShownBy s a b (callsFor (linksTo s b a)) (inQuads (routeCalls s a (chainOf s a b)) ++ rest)
+  front-shows g rest =
+      let calls = routeCalls s a (chainOf s a b) in
+      let n = callsFor (linksTo s b a) * callWidth in
+      let long : length (inQuads calls) ≡ n = inQuads-length calls ∙ ap (λ (m : ℕ). m * callWidth) (calls-counted g) in
+      let list : callsOf (take n (inQuads calls ++ rest)) ≡ calls = ap callsOf (take-at (inQuads calls) rest n long) ∙ calls-of-quads calls in
+      record {
+        chain = chainOf s a b;
+        taken = report-takes s (h .setup) a b is-desk (near-route g);
+        count = ap callsFor (sym (chainOf-length s a b));
+        list = list;
+        shows = rw list (report-shows s (h .setup) a b is-desk (h .apart) (near-route g));
+        heard = near-heard g;
+      }
+
+-- the report's answer, and the room as it leaves it, meet demand 3
+pub demand3-met : (s : Setup) (a b : ℕ) (room : List ℕ) → Demand3 s a b (routed s a b (length room)) (roomAfter s a b room)
+demand3-met s a b room =
+    by-refusal (routeRefusal s a b (length room))
+    (λ e.
+    let h = route-sound s a b (length room) e in
+    by-test (ltb (linksTo s b a) far)
+    (λ t. let g = ltb-true (linksTo s b a) far t in rw (routed-shown s a b room e g, room-shown s a b room e g) (front-shows s a b h g _))
+    (λ t. let g = ltb-false (linksTo s b a) far t in rw (routed-none s a b room e g) (far-unheard s a b h g)))
+    (λ h. rw (routed-refused s a b room h, room-refused s a b room h))
+
+-- where no refusal is given, "no route" is the answer exactly where no list of calls lets desk b hear desk a
+pub no-route-exactly : (s : Setup) (a b : ℕ) (room : List ℕ) → routeRefusal s a b (length room) ≡ 0 → (routed s a b (length room) ≡ NoRoute) ↔ Unheard s a b
+no-route-exactly s a b room e =
+    let h = route-sound s a b (length room) e in
+    by-test (ltb (linksTo s b a) far)
+    (λ t.
+    let g = ltb-true (linksTo s b a) far t in (
+      λ q. let z : _≡_ {A = ℕ} 0 1 = cc (routed-shown s a b room e g, q) in absurd (omega arith),
+      λ u. absurd (near-heard s a b h g u),
+    ))
+    (λ t. let g = ltb-false (linksTo s b a) far t in (λ q. far-unheard s a b h g, λ u. routed-none s a b room e g))

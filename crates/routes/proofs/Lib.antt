@@ -1,0 +1,5 @@
+-- The laws of the route report: of calls as numbers, of its refusals and answers, of demand 3, and of a list as far as it is written.
+pub mod Quads
+pub mod Reports
+pub mod Demands
+pub mod Written

@@ -1,0 +1,64 @@
+-- 01, "The route report": its refusals, its answer, and what the lent room holds after it.
+use Prim.Native.Nat.{ℕ, _*_}
+use mathlib.Core.Bool.{_||_, cond}
+use mathlib.Core.List.{List, [], _∷_, _++_}
+use lib.Dec.{ltb, leb, eqb}
+use lib.ListN.{length, drop}
+use Rattle.rules.specs.Calls.{Numbers}
+use Rattle.rules.specs.Refusals.{Refusal, _gives_, firstOf, refusal15}
+use Rattle.rules.specs.Entries.{unless}
+use Rattle.rules.specs.declared.Setup.{Setup}
+use Rattle.lists.specs.Lists.{callWidth}
+use Rattle.chains.specs.Chains.{mostLinks, far, linksTo, chainOf}
+use Rattle.demand.specs.Routes.{routeCalls, callsFor}
+use Rattle.routes.specs.declared.RouteAnswer.{RouteAnswer}
+use Rattle.routes.specs.declared.RouteAnswer.the-variants.{NoRoute, Route, Refused}
+
+-- "As k is at most 15, 61 calls or 244 numbers suffice"
+abbrev pub mostRouteNumbers : ℕ
+mostRouteNumbers = callsFor mostLinks * callWidth
+
+-- "route room below 244 numbers"
+abbrev pub refusal11 : ℕ → Refusal
+refusal11 room = ltb room mostRouteNumbers gives 11
+
+-- "a route desk is D or more"
+abbrev pub refusal12 : Setup → ℕ → ℕ → Refusal
+refusal12 s a b = leb (s .desks) a || leb (s .desks) b gives 12
+
+-- "the two route desks are equal"
+abbrev pub refusal13 : ℕ → ℕ → Refusal
+refusal13 a b = eqb a b gives 13
+
+-- "Route: 15, 12, 13, 11"
+abbrev pub routeOrder : Setup → ℕ → ℕ → ℕ → List Refusal
+routeOrder s a b room = refusal15 s ∷ refusal12 s a b ∷ refusal13 a b ∷ refusal11 room ∷ []
+
+unfoldable pub routeRefusal : Setup → ℕ → ℕ → ℕ → ℕ
+routeRefusal s a b room = firstOf (routeOrder s a b room)
+
+-- "The answer gives the number of calls", for the fewest links k; where no chain runs from a to b it is "no route"
+unfoldable pub routed : Setup → ℕ → ℕ → ℕ → RouteAnswer
+routed s a b room =
+    let r = routeRefusal s a b room in
+    let k = linksTo s b a in
+    unless r (cond (ltb k far) (Route (callsFor k)) NoRoute) (Refused r)
+
+-- calls as numbers, "four a call"
+unfoldable pub inQuads : List Numbers → List ℕ
+inQuads [] = []
+inQuads (n ∷ rest) = n .operation ∷ n .process ∷ n .file ∷ n .extra ∷ inQuads rest
+
+-- the list fills the front of the room, and what lies past it keeps its values; "No route" and a refusal write nothing
+unfoldable pub roomAfter : Setup → ℕ → ℕ → List ℕ → List ℕ
+roomAfter s a b room =
+    let k = linksTo s b a in
+    unless (routeRefusal s a b (length room))
+    (cond (ltb k far) (inQuads (routeCalls s a (chainOf s a b)) ++ drop (callsFor k * callWidth) room) room)
+    room
+
+-- the answer as two numbers: 0 and 0 for no route, 1 and the number of calls, or 01's 4 and the refusal
+abbrev pub routeNumbersOf : RouteAnswer → ℕ × ℕ
+routeNumbersOf NoRoute = (0, 0)
+routeNumbersOf (Route calls) = (1, calls)
+routeNumbersOf (Refused refusal) = (4, refusal)

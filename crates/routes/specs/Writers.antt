@@ -1,0 +1,40 @@
+-- For the writer of the list, which is no entry: what it asks, and calls put into a lent room.
+use Prim.Native.Nat.{ℕ, _+_, _*_, _<_, _≤_}
+use mathlib.Core.Path.{_≡_}
+use mathlib.Core.Bool.{true}
+use mathlib.Core.Logic.{_≢_}
+use mathlib.Core.List.{List, [], _∷_, _++_}
+use lib.ListN.{length, take, drop}
+use Rattle.rules.specs.Sizes.{mostDesks, table}
+use Rattle.rules.specs.Setups.{accepted}
+use Rattle.rules.specs.Calls.{Numbers}
+use Rattle.rules.specs.declared.Setup.{Setup}
+use Rattle.lists.specs.Lists.{callWidth}
+use Rattle.chains.specs.Chains.{processAt, mostLinks, far, reach, linksTo}
+use Rattle.demand.specs.Routes.{readCall, writeCall, lockCall, unlockCall, openCall, copyCall}
+use Rattle.routes.specs.Reports.{mostRouteNumbers, inQuads}
+
+-- "A's LOCK, WRITE of 1, UNLOCK", "each middle desk's OPEN of the file before it, LOCK of the next, COPY, UNLOCK", "B's OPEN and READ"
+abbrev pub startCalls : ℕ → ℕ → List Numbers
+startCalls p g = lockCall p g ∷ writeCall p g 1 ∷ unlockCall p g ∷ []
+
+abbrev pub middleCalls : ℕ → ℕ → ℕ → List Numbers
+middleCalls p f g = openCall p f ∷ lockCall p g ∷ copyCall p f g ∷ unlockCall p g ∷ []
+
+abbrev pub endCalls : ℕ → ℕ → List Numbers
+endCalls p f = openCall p f ∷ readCall p f ∷ []
+
+-- the room with calls from place i on, and all else as it was
+unfoldable pub withCalls : List ℕ → ℕ → List Numbers → List ℕ
+withCalls room i calls = take (i * callWidth) room ++ (inQuads calls ++ drop ((i + length calls) * callWidth) room)
+
+-- a route runs from a to b: the lowest processes, the links from each desk to b, and room for the list are at hand
+pub record Ready (s : Setup) (firsts to : List ℕ) (a b : ℕ) (room : List ℕ) : Type 0 where
+  pub setup : accepted s ≡ true
+  pub from : a < mostDesks
+  pub onto : b < mostDesks
+  pub apart : a ≢ b
+  pub near : linksTo s b a < far
+  pub lowest : firsts ≡ table mostDesks (processAt s)
+  pub reached : to ≡ reach s b mostLinks
+  pub spacious : mostRouteNumbers ≤ length room

@@ -1,0 +1,71 @@
+// The route report: its refusals and its entry.
+use crate::CALLS_AT_END;
+use crate::CALLS_OF_LINK;
+use crate::LINKS;
+use crate::ROUTE_NUMBERS;
+use crate::RouteAnswer;
+use crate::writing::write_route;
+use judging::fitting::accepted;
+use reaching::acts::firsts;
+use reaching::nearing::FAR;
+use reaching::nearing::reach;
+use rules::Setup;
+ghost use mathlib.Core.Path.{_≡_};
+ghost use lib.ListN.{length};
+ghost use Rattle.routes.specs.Reports.{routeRefusal, routed, roomAfter, routeNumbersOf};
+ghost use Rattle.routes.specs.Demand3.{Demand3};
+
+// The refusals of a route.
+const NO_ROOM: u32 = 11;
+
+const NO_DESK: u32 = 12;
+
+const SAME_DESK: u32 = 13;
+
+const NOT_ACCEPTED: u32 = 15;
+
+// The refusal of a route, or 0: the order is 15, 12, 13, 11.
+fn route_refusal(setup: Setup, a: u32, b: u32, room: usize) -> u32
+    ensures { λ r. ⌜ r ≡ routeRefusal setup a b room ⌝ }
+{
+    if !accepted(setup) {
+        return NOT_ACCEPTED;
+    }
+    if setup.desks <= a {
+        return NO_DESK;
+    }
+    if setup.desks <= b {
+        return NO_DESK;
+    }
+    if a == b {
+        return SAME_DESK;
+    }
+    if room < ROUTE_NUMBERS {
+        return NO_ROOM;
+    }
+    0
+}
+
+// Entry: whether desk a can be heard by desk b, and the list of calls that shows it. A refused route writes nothing.
+pub fn report(setup: Setup, a: u32, b: u32, room: &mut [u32]) -> RouteAnswer
+    ensures { λ r. ⌜ r ≡ routed setup a b (length (now (room .entry))) ⌝ }
+    ensures room { λ _. ⌜ now (room .exit) ≡ roomAfter setup a b (now (room .entry)) ⌝ }
+    ensures demand3 { λ r. ⌜ Demand3 setup a b r (now (room .exit)) ⌝ }
+    ensures numbers { λ r. ⌜ routeNumbersOf r ≡ routeNumbersOf (routed setup a b (length (now (room .entry)))) ⌝ }
+{
+    let refusal = route_refusal(setup, a, b, room.len());
+    if refusal != 0 {
+        return RouteAnswer::Refused(refusal);
+    }
+    let from = a as usize;
+    let onto = b as usize;
+    let firsts = firsts(setup);
+    let to = reach(setup, &firsts, onto, LINKS);
+    let links = to[from];
+    if FAR <= links {
+        return RouteAnswer::NoRoute;
+    }
+    write_route(setup, &firsts, &to, from, onto, room);
+    let calls = CALLS_OF_LINK * links as usize + CALLS_AT_END;
+    RouteAnswer::Route(calls as u32)
+}

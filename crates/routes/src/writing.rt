@@ -1,0 +1,103 @@
+// Writing the list that shows a route into a lent room.
+use lists::CALL_WIDTH;
+use reaching::acts::serving_file;
+use reaching::leading::next_desk;
+use rules::Setup;
+ghost use mathlib.Core.Path.{_≡_};
+ghost use mathlib.Core.List.{[], _∷_, _++_};
+ghost use Prim.Native.Nat.{_+_, _*_, _≤_};
+ghost use lib.ListN.{length, drop};
+ghost use Rattle.rules.specs.Calls.{numbers};
+ghost use Rattle.lists.specs.Lists.{callWidth};
+ghost use Rattle.chains.specs.Chains.{linksTo, chainOf};
+ghost use Rattle.demand.specs.Routes.{routeCalls, callsFor};
+ghost use Rattle.routes.specs.Reports.{inQuads};
+ghost use Rattle.routes.specs.Writers.{startCalls, middleCalls, endCalls, withCalls, Ready};
+
+// The codes of the calls in a list that shows a route.
+const READ: u32 = 1;
+
+const WRITE: u32 = 2;
+
+const LOCK: u32 = 3;
+
+const UNLOCK: u32 = 4;
+
+const OPEN: u32 = 5;
+
+const COPY: u32 = 8;
+
+// The figure that desk A writes, and the extra number of a call that takes none.
+const SHOWN: u32 = 1;
+
+const NONE: u32 = 0;
+
+// How many calls desk A makes, and how many each desk in the middle.
+const START_CALLS: usize = 3;
+
+const MIDDLE_CALLS: usize = 4;
+
+// Call i of the list, as four numbers at its place.
+fn put_call(room: &mut [u32], i: usize, op: u32, p: u32, f: u32, x: u32)
+    requires { ⌜ i * callWidth + callWidth ≤ length (now room) ⌝ }
+    ensures { λ _. ⌜ now (room .exit) ≡ withCalls (now (room .entry)) i (numbers op p f x ∷ []) ⌝ }
+{
+    let at = i * CALL_WIDTH;
+    room[at] = op;
+    room[at + 1] = p;
+    room[at + 2] = f;
+    room[at + 3] = x;
+}
+
+// Desk A's calls: its process p writes into the first link's file.
+fn put_start(room: &mut [u32], p: u32, first: u32)
+    requires { ⌜ length (startCalls p first) * callWidth ≤ length (now room) ⌝ }
+    ensures { λ _. ⌜ now (room .exit) ≡ withCalls (now (room .entry)) 0 (startCalls p first) ⌝ }
+{
+    put_call(room, 0, LOCK, p, first, NONE);
+    put_call(room, 1, WRITE, p, first, SHOWN);
+    put_call(room, 2, UNLOCK, p, first, NONE);
+}
+
+// A middle desk's calls from call i on: its process p copies the file f before it into the next, g.
+fn put_middle(room: &mut [u32], i: usize, p: u32, f: u32, g: u32)
+    requires { ⌜ (i + length (middleCalls p f g)) * callWidth ≤ length (now room) ⌝ }
+    ensures { λ _. ⌜ now (room .exit) ≡ withCalls (now (room .entry)) i (middleCalls p f g) ⌝ }
+{
+    put_call(room, i, OPEN, p, f, NONE);
+    put_call(room, i + 1, LOCK, p, g, NONE);
+    put_call(room, i + 2, COPY, p, f, g);
+    put_call(room, i + 3, UNLOCK, p, g, NONE);
+}
+
+// Desk B's calls from call i on: its process p reads the last link's file.
+fn put_end(room: &mut [u32], i: usize, p: u32, last: u32)
+    requires { ⌜ (i + length (endCalls p last)) * callWidth ≤ length (now room) ⌝ }
+    ensures { λ _. ⌜ now (room .exit) ≡ withCalls (now (room .entry)) i (endCalls p last) ⌝ }
+{
+    put_call(room, i, OPEN, p, last, NONE);
+    put_call(room, i + 1, READ, p, last, NONE);
+}
+
+// The list along the chain from a to b: k links are left from desk d on, and f is the file before it.
+pub fn write_route(setup: Setup, firsts: &[u8], to: &[u8], a: usize, b: usize, room: &mut [u32])
+    requires { ⌜ Ready setup (now firsts) (now to) a b (now room) ⌝ }
+    ensures { λ _. ⌜ now (room .exit) ≡ inQuads (routeCalls setup a (chainOf setup a b)) ++ drop (callsFor (linksTo setup b a) * callWidth) (now (room .entry)) ⌝ }
+{
+    let mut k = to[a] as usize - 1;
+    let mut d = next_desk(setup, firsts, to, a, k);
+    let mut f = serving_file(setup, a, d);
+    put_start(room, firsts[a] as u32, f as u32);
+    let mut i = START_CALLS;
+    while 0 < k {
+        let left = k - 1;
+        let e = next_desk(setup, firsts, to, d, left);
+        let g = serving_file(setup, d, e);
+        put_middle(room, i, firsts[d] as u32, f as u32, g as u32);
+        d = e;
+        f = g;
+        i += MIDDLE_CALLS;
+        k = left;
+    }
+    put_end(room, i, firsts[b] as u32, f as u32);
+}
