@@ -6,7 +6,7 @@
 /* ---- Judging. */
 
 /* Every entry before the count is below the bound, and every entry past it is 0. */
-static int entries_fit(const uint8_t *entries, uint32_t len, uint32_t count, uint32_t bound)
+static inline int entries_fit(const uint8_t *entries, uint32_t len, uint32_t count, uint32_t bound)
 {
     for (uint32_t i = 0; i < count; i++)
         if (entries[i] >= bound)

@@ -1,19 +1,22 @@
 -- Laws of the number that one link more gives a desk, by the next desk from there, and so of reach in n links by reach in one less.
 -- Assumes nothing.
 use Prim.Native.Nat.{ℕ, zero, suc, _+_, _-_, _<_, _≤_}
-use mathlib.Core.Path.{_≡_, refl, _∙_}
-use mathlib.Core.Bool.{cond}
+use mathlib.Core.Path.{_≡_, refl, sym, _∙_}
+use mathlib.Core.Bool.{true, false, cond, true≢false}
 use mathlib.Core.List.{List}
+use native.Mathlib.Nat.{le-antisymm}
+use native.Mathlib.Omega.{arith}
 use native.Mathlib.Numerals.{add-one, sub-one}
-use borrow.Author.Tests.{lt-ltb, le-ltb, eqb-true, eqb-false}
-use lib.Dec.{eqb}
+use borrow.Author.Tests.{lt-ltb, le-ltb, ltb-false, eqb-true, eqb-false, eq-eqb}
+use lib.Dec.{ltb, eqb}
 use lib.ListN.{length, getD, set, replicate, length-set, length-replicate, getD-replicate}
 use lib.Seq.{getD-set-same, getD-set-other}
-use Rattle.rules.specs.Sizes.{mostDesks, table}
+use Rattle.rules.specs.Sizes.{mostDesks, someBelow, table}
 use Rattle.rules.specs.declared.Setup.{Setup}
-use Rattle.rules.proofs.Lists.{by-test}
-use Rattle.rules.proofs.Sizes.{table-is}
-use Rattle.chains.specs.Chains.{far, leads, nearer, reach, nextDesk}
+use Rattle.rules.proofs.Lists.{by-test, cond-holds}
+use Rattle.rules.proofs.Sizes.{length-table, getD-table, table-is, someBelow-true, someBelow-iff}
+use Rattle.chains.specs.Chains.{mostLinks, far, leads, nearer, reach, nextDesk}
+use Rattle.chains.proofs.Reach.{leads-iff}
 use Rattle.reaching.proofs.Linked.{lowest-some, getD-inside}
 
 module _ (s : Setup) (before : List ℕ) (n d : ℕ) (l : d < length before) where
@@ -49,3 +52,42 @@ module _ (s : Setup) (b : ℕ) where
   unfolding reach
   reach-more zero h = absurd (h refl)
   reach-more (suc n) h = rw (sub-one (suc n))
+
+  -- no number of links is past the one that stands for none
+  reach-le : (n d : ℕ) → n ≤ mostLinks → d < mostDesks → getD (reach s b n) d far ≤ far
+  unfolding reach nearer
+  reach-le zero d h l = rw (getD-table mostDesks (λ u. cond (eqb u b) 0 far) d far l) (cond-holds (λ (v : ℕ). v ≤ far) (eqb d b) (λ t. omega arith) (λ t. omega arith))
+  reach-le (suc n) d h l =
+      rw (getD-table mostDesks (nearer s (reach s b n) n) d far l)
+      (cond-holds (λ (v : ℕ). v ≤ far) (ltb (getD (reach s b n) d far) far) (λ t. reach-le n d (omega arith) l)
+      (λ t. cond-holds (λ (v : ℕ). v ≤ far) (someBelow mostDesks (leads s (reach s b n) d n)) (λ u. omega arith) (λ u. omega arith)))
+
+  reach-long : (n : ℕ) → length (reach s b n) ≡ mostDesks
+  unfolding reach
+  reach-long zero = length-table mostDesks _
+  reach-long (suc n) = length-table mostDesks _
+
+  -- where no desk stands n links from the end, one link more reaches no other desk
+  module _ (n : ℕ) (h : n ≤ mostLinks) (none : someBelow mostDesks (λ e. eqb (getD (reach s b n) e 0) n) ≡ false) where
+    no-lead : (d : ℕ) → someBelow mostDesks (leads s (reach s b n) d n) ≡ false
+    no-lead d =
+        by-test (someBelow mostDesks (leads s (reach s b n) d n))
+        (λ t.
+        let (e, l, q) = someBelow-iff mostDesks (leads s (reach s b n) d n) .0 t in
+        let at : getD (reach s b n) e far ≡ n = leads-iff s (reach s b n) d n e .0 q .1 in
+        let there : getD (reach s b n) e 0 ≡ n = getD-inside (reach s b n) e 0 far (omega (arith, reach-long n)) ∙ at in
+        absurd (true≢false (sym (someBelow-true mostDesks _ e l (eq-eqb _ n there)) ∙ none)))
+        (λ t. t)
+
+    reach-same : reach s b n ≡ table mostDesks (nearer s (reach s b n) n)
+    unfolding nearer
+    reach-same =
+        table-is mostDesks _ (reach s b n) far (reach-long n)
+        (λ d l.
+        by-test (ltb (getD (reach s b n) d far) far) (λ t. rw t)
+        (λ t. rw (t, no-lead d) (le-antisymm (reach-le n d h l) (ltb-false (getD (reach s b n) d far) far t))))
+
+  -- so numbers of which none is n are those of one link more too
+  pub none-stands : (before : List ℕ) (n : ℕ) → before ≡ reach s b n → n ≤ mostLinks → someBelow (length before) (λ e. eqb (getD before e 0) n) ≡ false
+      → before ≡ table mostDesks (nearer s (reach s b n) n)
+  none-stands before n q h e = q ∙ reach-same n h (rw (q, reach-long n) at e)

@@ -4,8 +4,9 @@ use rules::DESKS;
 use rules::Setup;
 ghost use mathlib.Core.Path.{_≡_};
 ghost use Prim.Native.Nat.{_<_, _≤_};
-ghost use lib.ListN.{length};
-ghost use Rattle.rules.specs.Sizes.{mostDesks, table};
+ghost use lib.Dec.{eqb};
+ghost use lib.ListN.{length, getD};
+ghost use Rattle.rules.specs.Sizes.{mostDesks, someBelow, table};
 ghost use Rattle.chains.specs.Chains.{processAt, mostLinks, nearer, reach};
 
 // A number past every number of links that a chain needs.
@@ -40,6 +41,20 @@ fn nearer(setup: Setup, firsts: &[u8], before: &[u8], n: usize) -> [u8; DESKS]
     to
 }
 
+// Some desk stands k links from the end.
+fn stands(to: &[u8], k: usize) -> bool
+    ensures { λ r. ⌜ r ≡ someBelow (length (now (to .entry))) (λ e. eqb (getD (now (to .entry)) e 0) k) ⌝ }
+{
+    let mut e = 0;
+    while e < to.len() {
+        if to[e] as usize == k {
+            return true;
+        }
+        e += 1;
+    }
+    false
+}
+
 // Answers for all desks at once: a call of itself for each desk would be as many calls a level as there are desks.
 pub fn reach(setup: Setup, firsts: &[u8], b: usize, n: usize) -> [u8; DESKS]
     requires { ⌜ (now firsts ≡ table mostDesks (processAt setup)) × (b < mostDesks) × (n ≤ mostLinks) ⌝ }
@@ -52,5 +67,9 @@ pub fn reach(setup: Setup, firsts: &[u8], b: usize, n: usize) -> [u8; DESKS]
     }
     let less = n - 1;
     let before = reach(setup, firsts, b, less);
+    // No link leads to a desk that stands there if none does.
+    if !stands(&before, less) {
+        return before;
+    }
     nearer(setup, firsts, &before, less)
 }

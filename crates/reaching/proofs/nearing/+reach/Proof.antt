@@ -2,14 +2,17 @@
 -- Assumes nothing.
 use native.Mathlib.Omega.{arith}
 use borrow.Author.Needs.{needs}
-use Rattle.reaching.proofs.Nearer.{reach-none, reach-more}
-use Prim.Native.Nat.{ℕ, _<_}
+use mathlib.Core.Path.{_∙_}
+use Rattle.rules.proofs.Told.{fails}
+use Rattle.reaching.proofs.Nearer.{reach-none, reach-more, none-stands}
+use Prim.Native.Nat.{ℕ, _-_, _<_}
 use borrow.Fn.Kinds.{In}
 use borrow.Fn.PlainCycle.{Measures, is, falls, and}
 use Rattle.reaching.proofs.nearing.reach.Reads as reach
 use Rattle.reaching.proofs.nearing.reach.Kinds as reach-kinds
 use Rattle.reaching.proofs.nearing.+reach.Lts-reach as reach-lts
 use Rattle.reaching.proofs.nearing.nearer.Reads as nearer-reads
+use Rattle.reaching.proofs.nearing.stands.Reads as stands-reads
 use Rattle.reaching.proofs.nearing.+reach.{statement}
 use Rattle.reaching.proofs.nearing.+reach.Tie.{close}
 
@@ -23,9 +26,9 @@ reach-at t = and 1 reach-kinds.ps (is 1 reach-kinds.ps μ-reach t) reach.Pre
 abbrev reach-below : ℕ → In 1 reach-kinds.ps
 reach-below t = and 1 reach-kinds.ps (falls 1 reach-kinds.ps _<_ μ-reach t) reach.Pre
 
--- what it calls: itself below t, and `nearer`
+-- what it calls: itself below t, `stands` and `nearer`
 abbrev calls : ℕ → reach-lts.Claims
-calls t = (reach-below t, reach.Post, nearer-reads.Asked, nearer-reads.Learnt)
+calls t = (reach-below t, reach.Post, stands-reads.Asked, stands-reads.Learnt, nearer-reads.Asked, nearer-reads.Learnt)
 
 reach-array-write-to : (t : ℕ) → reach-lts.Need-array-write-to (calls t) (reach-at t) reach.Post
 reach-array-write-to t c = omega arith
@@ -39,16 +42,28 @@ reach-sub-less t c = omega arith
 reach-reach-requires : (t : ℕ) → reach-lts.Need-reach-requires (calls t) (reach-at t) reach.Post
 reach-reach-requires t c κs = search needs
 
+reach-slice-aggregate-stands : (t : ℕ) → reach-lts.Need-slice-aggregate-stands (calls t) (reach-at t) reach.Post
+reach-slice-aggregate-stands t c = search needs
+
+reach-stands-requires : (t : ℕ) → reach-lts.Need-stands-requires (calls t) (reach-at t) reach.Post
+reach-stands-requires t c κs = search needs
+
+reach-returns-2 : (t : ℕ) → reach-lts.Need-returns-2 (calls t) (reach-at t) reach.Post
+reach-returns-2 t c =
+    let at = c .before .before .before .before .before .before in
+    none-stands (at .args .setup) (at .args .b) _ (at .args .n - 1) (c .before .before .before .reach .ensures) (omega (arith, at .pre .1 .2)) (fails (c .before .stands .ensures) (c .if2 .taken))
+    ∙ reach-more (at .args .setup) (at .args .b) (at .args .n) (c .before .before .before .before .if1 .left)
+
 reach-slice-aggregate-nearer : (t : ℕ) → reach-lts.Need-slice-aggregate-nearer (calls t) (reach-at t) reach.Post
 reach-slice-aggregate-nearer t c = search needs
 
 reach-nearer-requires : (t : ℕ) → reach-lts.Need-nearer-requires (calls t) (reach-at t) reach.Post
 reach-nearer-requires t c κs = search needs
 
-reach-returns-2 : (t : ℕ) → reach-lts.Need-returns-2 (calls t) (reach-at t) reach.Post
-reach-returns-2 t c =
-    let at = c .before .before .before .before .before in
-    rw (c .nearer .ensures, c .before .before .reach .ensures) (reach-more (at .args .setup) (at .args .b) (at .args .n) (c .before .before .before .if1 .left))
+reach-returns-3 : (t : ℕ) → reach-lts.Need-returns-3 (calls t) (reach-at t) reach.Post
+reach-returns-3 t c =
+    let at = c .before .before .before .before .before .before .before .before in
+    rw (c .nearer .ensures, c .before .before .before .before .before .reach .ensures) (reach-more (at .args .setup) (at .args .b) (at .args .n) (c .before .before .before .before .before .before .if1 .left))
 
 pub +reach-spec : {M : Type 1} → statement M
 +reach-spec = close μ-reach λ t. reach-lts.spec (calls t)
@@ -58,6 +73,9 @@ pub +reach-spec : {M : Type 1} → statement M
     (reach-returns t)
     (reach-sub-less t)
     (reach-reach-requires t)
+    (reach-slice-aggregate-stands t)
+    (reach-stands-requires t)
+    (reach-returns-2 t)
     (reach-slice-aggregate-nearer t)
     (reach-nearer-requires t)
-    (reach-returns-2 t)
+    (reach-returns-3 t)
