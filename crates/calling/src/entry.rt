@@ -21,7 +21,7 @@ ghost use Rattle.rules.specs.Sizes.{mostProcesses, mostFiles};
 ghost use Rattle.rules.specs.Stores.{isOpen};
 ghost use Rattle.rules.specs.Calls.{numbers, processOf, fileOf, changeable, answerTo, nextStore};
 ghost use Rattle.rules.specs.Answers.{numbersOf};
-ghost use Rattle.calling.specs.Looking.{looksOn};
+ghost use Rattle.calling.specs.Looking.{rightIn, looksOn};
 ghost use Rattle.rules.specs.Entries.{called};
 
 pub fn process_of(call: Call) -> u32
@@ -86,6 +86,25 @@ pub fn sheet_of(holder: u32, content: Content, mark: u8) -> Sheet
     }
 }
 
+// The right on the file that a call can change; it is looked up anew only where that is another file.
+fn right_on<'a>(
+    rights: &'a [u8],
+    desk: &'a [u8],
+    class: &'a [u8],
+    p: usize,
+    f: usize,
+    x: usize,
+    own: u8,
+) -> u8
+    requires { ⌜ own ≡ rightIn (now rights) (now desk) (now class) p f ⌝ }
+    ensures { λ r. ⌜ r ≡ rightIn (now (rights .entry)) (now (desk .entry)) (now (class .entry)) p x ⌝ }
+{
+    if x == f {
+        return own;
+    }
+    right_of(rights, desk, class, p, x)
+}
+
 // What a call looks at; the tables are lent, so that none is copied for a call.
 pub fn look_on<'a>(
     rights: &'a [u8],
@@ -100,8 +119,9 @@ pub fn look_on<'a>(
     let p = process_of(call) as usize;
     let f = file_of(call) as usize;
     let x = changeable(call) as usize;
-    let r = has_r(right_of(rights, desk, class, p, f));
-    let w = has_w(right_of(rights, desk, class, p, x));
+    let own = right_of(rights, desk, class, p, f);
+    let r = has_r(own);
+    let w = has_w(right_on(rights, desk, class, p, f, x, own));
     let opened = is_open(source.mark);
     let holder = source.holder;
     let content = source.content;

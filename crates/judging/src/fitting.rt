@@ -19,7 +19,7 @@ ghost use Prim.Native.Nat.{_+_, _*_, _<_};
 ghost use lib.Dec.{ltb};
 ghost use lib.ListN.{length, getD};
 ghost use Rattle.rules.specs.Sizes.{mostDesks, mostClasses, mostFiles, mostRights, mostMarks, within, every};
-ghost use Rattle.rules.specs.Setups.{rightBoth, withinSizes, entryFits, rightsFit, desksFit, classesFit, accepted};
+ghost use Rattle.rules.specs.Setups.{rightBoth, withinSizes, entryFits, accepted};
 ghost use Rattle.rules.specs.Stores.{isBlank, markAt, storeOf, holderFits, markFits, marksFit, fileIsBlank, fileFits, fits};
 ghost use Rattle.judging.specs.Tables.{tables};
 ghost use Rattle.rules.specs.Refusals.{judgeRefusal};
@@ -85,13 +85,15 @@ fn row_fits(rights: &[u8], desk: usize, classes: usize) -> bool
     entries_fit(&rights[start..end], classes, BOTH as usize + 1)
 }
 
-fn rights_fit(setup: Setup) -> bool
-    ensures { λ r. ⌜ r ≡ rightsFit setup ⌝ }
+// The row of each desk fits; the whole table is lent.
+fn rights_fit(desks: u32, classes: u32, rights: &[u8]) -> bool
+    requires { ⌜ length (now rights) ≡ mostRights ⌝ }
+    ensures { λ r. ⌜ r ≡ every mostDesks (λ d. every mostClasses (λ t. entryFits (cond (ltb d desks) classes 0) (rightBoth + 1) t (getD (now (rights .entry)) (d * mostClasses + t) 0))) ⌝ }
 {
     let mut desk = 0;
     while desk < DESKS {
-        let classes = classes_at(setup.desks, setup.classes, desk);
-        if !row_fits(&setup.rights, desk, classes) {
+        let count = classes_at(desks, classes, desk);
+        if !row_fits(rights, desk, count) {
             return false;
         }
         desk += 1;
@@ -99,25 +101,13 @@ fn rights_fit(setup: Setup) -> bool
     true
 }
 
-fn desks_fit(setup: Setup) -> bool
-    ensures { λ r. ⌜ r ≡ desksFit setup ⌝ }
-{
-    entries_fit(&setup.desk, setup.processes as usize, setup.desks as usize)
-}
-
-fn classes_fit(setup: Setup) -> bool
-    ensures { λ r. ⌜ r ≡ classesFit setup ⌝ }
-{
-    entries_fit(&setup.class, setup.files as usize, setup.classes as usize)
-}
-
 pub fn accepted(setup: Setup) -> bool
     ensures { λ r. ⌜ r ≡ accepted setup ⌝ }
 {
     within_sizes(setup.desks, setup.classes, setup.processes, setup.files)
-        & rights_fit(setup)
-        & desks_fit(setup)
-        & classes_fit(setup)
+        & rights_fit(setup.desks, setup.classes, &setup.rights)
+        & entries_fit(&setup.desk, setup.processes as usize, setup.desks as usize)
+        & entries_fit(&setup.class, setup.files as usize, setup.classes as usize)
 }
 
 fn is_blank(content: Content) -> bool

@@ -12,8 +12,9 @@ use Rattle.rules.specs.Sizes.{mostDesks, someBelow, table}
 use Rattle.rules.specs.Links.{hasProcess, linked}
 use Rattle.rules.specs.declared.Setup.{Setup}
 use Rattle.rules.proofs.Lists.{by-test, getElem?-getD}
-use Rattle.rules.proofs.Sizes.{length-table, getD-table}
+use Rattle.rules.proofs.Sizes.{getD-table}
 use Rattle.chains.specs.Chains.{lowest, processAt, fileFor, far, leads}
+use Rattle.reaching.specs.Filed.{filed, TablesOf}
 use Rattle.chains.proofs.Lowest.{lowest-iff, lowest-none}
 use Rattle.chains.proofs.Reach.{leads-iff}
 
@@ -27,18 +28,15 @@ linked-is : (s : Setup) (d e : ℕ) → linked s d e ≡ (ltb (processAt s d) (s
 unfolding linked hasProcess
 linked-is s d e = simp lowest-some
 
--- a table of each desk's lowest process has an entry for every desk, which is that process
-module _ (s : Setup) (firsts : List ℕ) (h : firsts ≡ table mostDesks (processAt s)) where
-  pub firsts-long : length firsts ≡ mostDesks
-  firsts-long = rw h (length-table mostDesks (processAt s))
+-- a table of each desk's lowest process has that process for every desk
+pub firsts-at : (s : Setup) (firsts : List ℕ) → firsts ≡ table mostDesks (processAt s) → (d : ℕ) → d < mostDesks → getD firsts d 0 ≡ processAt s d
+firsts-at s firsts h d l = rw h (getD-table mostDesks (processAt s) d 0 l)
 
-  pub firsts-at : (d : ℕ) → d < mostDesks → getD firsts d 0 ≡ processAt s d
-  firsts-at d l = rw h (getD-table mostDesks (processAt s) d 0 l)
-
-  -- so a link is told by the table and the file
-  pub linked-by : (d e : ℕ) → d < mostDesks → e < mostDesks
-      → linked s d e ≡ (ltb (getD firsts d 0) (s .processes) && ltb (getD firsts e 0) (s .processes) && ltb (fileFor s d e) (s .files))
-  linked-by d e k l = rw (firsts-at d k, firsts-at e l) (linked-is s d e)
+-- so a link of a setup is told by its counts and tables
+pub linked-by : (s : Setup) (processes files : ℕ) (rights class firsts : List ℕ) → TablesOf s processes files rights class firsts → (d e : ℕ) → d < mostDesks → e < mostDesks
+    → linked s d e ≡ (ltb (getD firsts d 0) processes && ltb (getD firsts e 0) processes && ltb (fileFor (filed files rights class) d e) files)
+linked-by s processes files rights class firsts t d e k l =
+    rw (t .lowest, t .count, t .number, t .own-rights, t .own-class, getD-table mostDesks (processAt s) d 0 k, getD-table mostDesks (processAt s) e 0 l) (linked-is s d e)
 
 -- what stands before the end of a list stands there, whatever would stand in for what is missing
 pub getD-inside : (xs : List ℕ) (i a b : ℕ) → i < length xs → getD xs i a ≡ getD xs i b

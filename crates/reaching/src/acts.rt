@@ -12,7 +12,8 @@ ghost use Rattle.rules.specs.Sizes.{mostDesks, table};
 ghost use Rattle.rules.specs.Setups.{accepted};
 ghost use Rattle.rules.specs.Links.{serves};
 ghost use Rattle.chains.specs.Chains.{processAt, fileFor};
-ghost use Rattle.reaching.specs.Filed.{filed};
+ghost use lib.ListN.{length};
+ghost use Rattle.reaching.specs.Filed.{filed, ForFirsts};
 
 // The first process of each desk, by desk, and the number of processes where a desk has none.
 pub fn firsts(setup: Setup) -> [u8; DESKS]
@@ -33,12 +34,12 @@ pub fn firsts(setup: Setup) -> [u8; DESKS]
     firsts
 }
 
-pub fn lowest_process(setup: Setup, d: usize) -> usize
-    requires { ⌜ (accepted setup ≡ true) × (d < mostDesks) ⌝ }
-    ensures { λ r. ⌜ r ≡ processAt setup d ⌝ }
+// The finder of a desk's lowest process: the table of firsts is filled once, and looked into.
+pub fn lowest_process(firsts: &[u8], d: usize) -> usize
+    requires { ⌜ (length (now firsts) ≡ mostDesks) × (d < mostDesks) ⌝ }
+    ensures { λ r. ⌜ ForFirsts (now (firsts .entry)) (λ s. r ≡ processAt s d) ⌝ }
 {
-    let by_desk = firsts(setup);
-    by_desk[d] as usize
+    firsts[d] as usize
 }
 
 // From a setup's two tables, lent, so that none is copied for a look at one entry.
@@ -68,11 +69,4 @@ pub fn file_for<'a>(files: usize, rights: &'a [u8], class: &'a [u8], d: usize, e
         }
         f += 1;
     }
-}
-
-pub fn serving_file(setup: Setup, d: usize, e: usize) -> usize
-    requires { ⌜ (d < mostDesks) × (e < mostDesks) ⌝ }
-    ensures { λ r. ⌜ r ≡ fileFor setup d e ⌝ }
-{
-    file_for(setup.files as usize, &setup.rights, &setup.class, d, e)
 }

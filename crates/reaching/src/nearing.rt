@@ -1,41 +1,58 @@
 // In how few links each desk reaches a desk.
 use crate::leading::next_desk;
 use rules::DESKS;
-use rules::Setup;
 ghost use mathlib.Core.Path.{_≡_};
 ghost use Prim.Native.Nat.{_<_, _≤_};
 ghost use lib.Dec.{eqb};
 ghost use lib.ListN.{length, getD};
 ghost use Rattle.rules.specs.Sizes.{mostDesks, someBelow, table};
-ghost use Rattle.chains.specs.Chains.{processAt, mostLinks, nearer, reach};
+ghost use Rattle.reaching.specs.Filed.{ForTables};
+ghost use Rattle.chains.specs.Chains.{mostLinks, nearer, reach};
 
 // A number past every number of links that a chain needs.
 pub const FAR: u8 = DESKS as u8;
 
 // The number that stood at d, and where none did one more than n if a link leads to a desk that stands n links from the end.
-fn nearer_at(setup: Setup, firsts: &[u8], before: &[u8], n: usize, d: usize) -> u8
-    requires { ⌜ (now firsts ≡ table mostDesks (processAt setup)) × (length (now before) ≡ mostDesks) × (n < mostLinks) × (d < mostDesks) ⌝ }
-    ensures { λ r. ⌜ r ≡ nearer setup (now (before .entry)) n d ⌝ }
+fn nearer_at<'a>(
+    processes: usize,
+    files: usize,
+    rights: &'a [u8],
+    class: &'a [u8],
+    firsts: &[u8],
+    before: &[u8],
+    n: usize,
+    d: usize,
+) -> u8
+    requires { ⌜ (length (now firsts) ≡ mostDesks) × (length (now before) ≡ mostDesks) × (n < mostLinks) × (d < mostDesks) ⌝ }
+    ensures { λ r. ⌜ ForTables processes files (now (rights .entry)) (now (class .entry)) (now (firsts .entry)) (λ s. r ≡ nearer s (now (before .entry)) n d) ⌝ }
 {
     let was = before[d];
     if was < FAR {
         return was;
     }
-    if next_desk(setup, firsts, before, d, n) < DESKS {
+    if next_desk(processes, files, rights, class, firsts, before, d, n) < DESKS {
         n as u8 + 1
     } else {
         FAR
     }
 }
 
-fn nearer(setup: Setup, firsts: &[u8], before: &[u8], n: usize) -> [u8; DESKS]
-    requires { ⌜ (now firsts ≡ table mostDesks (processAt setup)) × (length (now before) ≡ mostDesks) × (n < mostLinks) ⌝ }
-    ensures { λ r. ⌜ r ≡ table mostDesks (nearer setup (now (before .entry)) n) ⌝ }
+fn nearer<'a>(
+    processes: usize,
+    files: usize,
+    rights: &'a [u8],
+    class: &'a [u8],
+    firsts: &[u8],
+    before: &[u8],
+    n: usize,
+) -> [u8; DESKS]
+    requires { ⌜ (length (now firsts) ≡ mostDesks) × (length (now before) ≡ mostDesks) × (n < mostLinks) ⌝ }
+    ensures { λ r. ⌜ ForTables processes files (now (rights .entry)) (now (class .entry)) (now (firsts .entry)) (λ s. r ≡ table mostDesks (nearer s (now (before .entry)) n)) ⌝ }
 {
     let mut to = [FAR; DESKS];
     let mut d = 0;
     while d < DESKS {
-        to[d] = nearer_at(setup, firsts, before, n, d);
+        to[d] = nearer_at(processes, files, rights, class, firsts, before, n, d);
         d += 1;
     }
     to
@@ -56,9 +73,17 @@ fn stands(to: &[u8], k: usize) -> bool
 }
 
 // Answers for all desks at once: a call of itself for each desk would be as many calls a level as there are desks.
-pub fn reach(setup: Setup, firsts: &[u8], b: usize, n: usize) -> [u8; DESKS]
-    requires { ⌜ (now firsts ≡ table mostDesks (processAt setup)) × (b < mostDesks) × (n ≤ mostLinks) ⌝ }
-    ensures { λ r. ⌜ r ≡ reach setup b n ⌝ }
+pub fn reach<'a>(
+    processes: usize,
+    files: usize,
+    rights: &'a [u8],
+    class: &'a [u8],
+    firsts: &[u8],
+    b: usize,
+    n: usize,
+) -> [u8; DESKS]
+    requires { ⌜ (length (now firsts) ≡ mostDesks) × (b < mostDesks) × (n ≤ mostLinks) ⌝ }
+    ensures { λ r. ⌜ ForTables processes files (now (rights .entry)) (now (class .entry)) (now (firsts .entry)) (λ s. r ≡ reach s b n) ⌝ }
 {
     if n == 0 {
         let mut to = [FAR; DESKS];
@@ -66,10 +91,10 @@ pub fn reach(setup: Setup, firsts: &[u8], b: usize, n: usize) -> [u8; DESKS]
         return to;
     }
     let less = n - 1;
-    let before = reach(setup, firsts, b, less);
+    let before = reach(processes, files, rights, class, firsts, b, less);
     // No link leads to a desk that stands there if none does.
     if !stands(&before, less) {
         return before;
     }
-    nearer(setup, firsts, &before, less)
+    nearer(processes, files, rights, class, firsts, &before, less)
 }

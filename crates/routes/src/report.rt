@@ -59,8 +59,18 @@ pub fn report(setup: Setup, a: u32, b: u32, room: &mut [u32]) -> RouteAnswer
     }
     let from = a as usize;
     let onto = b as usize;
+    let processes = setup.processes as usize;
+    let files = setup.files as usize;
     let firsts = firsts(setup);
-    let to = reach(setup, &firsts, onto, LINKS);
+    let to = reach(
+        processes,
+        files,
+        &setup.rights,
+        &setup.class,
+        &firsts,
+        onto,
+        LINKS,
+    );
     let links = to[from];
     if FAR <= links {
         return RouteAnswer::NoRoute;

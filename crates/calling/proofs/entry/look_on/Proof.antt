@@ -28,8 +28,8 @@ right-of-requires c κs = search needs
 has-r-requires : tie.Need-has-r-requires
 has-r-requires c κs = search needs
 
-right-of-requires-2 : tie.Need-right-of-requires-2
-right-of-requires-2 c κs = search needs
+right-on-requires : tie.Need-right-on-requires
+right-on-requires c κs = search needs
 
 has-w-requires : tie.Need-has-w-requires
 has-w-requires c κs = search needs
@@ -44,7 +44,7 @@ returns c =
       c .before .before .has-w .ensures,
       c .before .is-open .ensures,
       c .before .before .before .before .before .right-of .ensures,
-      c .before .before .before .right-of2 .ensures,
+      c .before .before .before .right-on .ensures,
       c .before .before .before .before .before .before .before .before .process-of .ensures,
       c .before .before .before .before .before .before .before .file-of .ensures,
       c .before .before .before .before .before .before .changeable .ensures,
@@ -62,7 +62,7 @@ look-on-spec =
     cast-x
     right-of-requires
     has-r-requires
-    right-of-requires-2
+    right-on-requires
     has-w-requires
     is-open-requires
     returns)

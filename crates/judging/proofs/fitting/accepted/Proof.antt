@@ -1,7 +1,10 @@
--- `judging::fitting::accepted` meets its contract, by what its callees answer.
+-- `judging::fitting::accepted` meets its contract, by what its callees answer of each table.
 -- Assumes nothing.
+use mathlib.Core.Path.{_≡_}
+use lib.ListN.{length}
 use borrow.Author.Needs.{needs}
-use Rattle.rules.specs.Setups.{accepted}
+use Rattle.rules.specs.Sizes.{mostProcesses, mostFiles}
+use Rattle.rules.specs.Setups.{rowFits, rightsFit, desksFit, classesFit, accepted}
 use Rattle.judging.proofs.fitting.accepted.Statement.{statement}
 use Rattle.judging.proofs.fitting.accepted.Tie as tie
 
@@ -11,20 +14,37 @@ within-sizes-requires c κs = search needs
 rights-fit-requires : tie.Need-rights-fit-requires
 rights-fit-requires c κs = search needs
 
-desks-fit-requires : tie.Need-desks-fit-requires
-desks-fit-requires c κs = search needs
+cast-entries-fit : tie.Need-cast-entries-fit
+cast-entries-fit c = search needs
 
-classes-fit-requires : tie.Need-classes-fit-requires
-classes-fit-requires c κs = search needs
+cast-entries-fit-2 : tie.Need-cast-entries-fit-2
+cast-entries-fit-2 c = search needs
+
+entries-fit-requires : tie.Need-entries-fit-requires
+entries-fit-requires c κs = search needs
+
+cast-entries-fit-3 : tie.Need-cast-entries-fit-3
+cast-entries-fit-3 c = search needs
+
+cast-entries-fit-4 : tie.Need-cast-entries-fit-4
+cast-entries-fit-4 c = search needs
+
+entries-fit-requires-2 : tie.Need-entries-fit-requires-2
+entries-fit-requires-2 c κs = search needs
 
 returns : tie.Need-returns
-unfolding accepted
+unfolding accepted rightsFit rowFits desksFit classesFit
 returns c =
-    simp (
-      c .before .before .before .within-sizes .ensures,
-      c .before .before .rights-fit .ensures,
-      c .before .desks-fit .ensures,
-      c .classes-fit .ensures,
+    let a = c .before .before .before .before .before .before .before .before .before .before .before .before .before .args .t1 in
+    let seats : length (a .desk) ≡ mostProcesses = search needs in
+    let sorts : length (a .class) ≡ mostFiles = search needs in
+    rw (
+      c .before .before .before .before .before .before .before .before .before .before .before .before .within-sizes .ensures,
+      c .before .before .before .before .before .before .before .before .rights-fit .ensures,
+      c .before .before .before .before .entries-fit .ensures,
+      c .entries-fit2 .ensures,
+      seats,
+      sorts,
     )
 
 pub accepted-spec : {M : Type 1} → statement M
@@ -33,6 +53,10 @@ accepted-spec =
     (tie.spec
     within-sizes-requires
     rights-fit-requires
-    desks-fit-requires
-    classes-fit-requires
+    cast-entries-fit
+    cast-entries-fit-2
+    entries-fit-requires
+    cast-entries-fit-3
+    cast-entries-fit-4
+    entries-fit-requires-2
     returns)

@@ -1,22 +1,29 @@
 -- `judging::fitting::rights_fit` meets its contract. The loop's invariant: the row of every desk passed fits.
 -- Assumes nothing.
-use Prim.Native.Nat.{_-_}
+use Prim.Native.Nat.{ℕ, _+_, _*_, _-_}
 use mathlib.Core.Path.{_≡_}
+use mathlib.Core.Bool.{Bool, cond}
+use mathlib.Core.List.{List}
 use native.Mathlib.Omega.{arith}
-use lib.ListN.{length}
+use lib.Dec.{ltb}
+use lib.ListN.{getD}
 use borrow.Author.Needs.{needs}
-use Rattle.rules.specs.Sizes.{mostDesks, mostRights}
-use Rattle.rules.specs.Setups.{rowFits, rightsFit}
+use Rattle.rules.specs.Sizes.{mostDesks, mostClasses, every}
+use Rattle.rules.specs.Setups.{rightBoth, entryFits}
 use Rattle.rules.proofs.Passed.{Passed, passed-none, passed-more, passed-all, stopped-at}
 use Rattle.rules.proofs.Told.{fails, holds}
 use Rattle.judging.proofs.fitting.rights_fit.Statement.{statement}
 use Rattle.judging.proofs.fitting.rights_fit.Tie as tie
 
+-- the row of a desk fits
+abbrev fitting : ℕ → ℕ → List ℕ → ℕ → Bool
+fitting desks classes rights d = every mostClasses (λ t. entryFits (cond (ltb d desks) classes 0) (rightBoth + 1) t (getD rights (d * mostClasses + t) 0))
+
 abbrev Inv-loop : tie.InvT-loop
-Inv-loop setup desk₀ desk = Passed mostDesks (rowFits setup) desk
+Inv-loop desks classes rights desk₀ desk = Passed mostDesks (fitting desks classes rights) desk
 
 abbrev μ-loop : tie.MeasureT-loop
-μ-loop setup desk₀ desk = mostDesks - desk
+μ-loop desks classes rights desk₀ desk = mostDesks - desk
 
 loop-holds : tie.Need-loop-holds Inv-loop μ-loop
 loop-holds c = passed-none _ _
@@ -25,15 +32,13 @@ classes-at-requires : tie.Need-classes-at-requires Inv-loop μ-loop
 classes-at-requires c κs = search needs
 
 row-fits-requires : tie.Need-row-fits-requires Inv-loop μ-loop
-row-fits-requires c κs = let long : length (c .before .before .before .before .before .before .args .t1 .rights) ≡ mostRights = search needs in (omega (arith, c .before .before .before .before .loop-test .taken), long)
+row-fits-requires c κs = (c .before .loop-test .taken, c .before .before .before .before .pre)
 
 -- what was asked of the row is what fitting asks of it
-row : (c : tie.After-row-fits Inv-loop μ-loop) → c .row-fits .result ≡ rowFits (c .before .before .before .before .before .before .before .args .t1) (c .before .before .before .before .before .before .loop .desk)
-unfolding rowFits
-row c = rw (c .row-fits .ensures, c .before .before .before .before .classes-at .ensures)
+row : (c : tie.After-row-fits Inv-loop μ-loop) → let a = c .before .before .before .before .before .args in c .row-fits .result ≡ fitting (a .desks) (a .classes) (a .rights .now) (c .before .before .before .loop .desk)
+row c = rw (c .row-fits .ensures, c .before .classes-at .ensures)
 
 returns : tie.Need-returns Inv-loop μ-loop
-unfolding rightsFit
 returns c = stopped-at _ _ _ (omega arith) (fails (row (c .before)) (c .if1 .taken))
 
 add-desk : tie.Need-add-desk Inv-loop μ-loop
@@ -43,10 +48,9 @@ loop-less : tie.Need-loop-less Inv-loop μ-loop
 loop-less c = omega arith
 
 loop-again : tie.Need-loop-again Inv-loop μ-loop
-loop-again c = passed-more _ _ _ (c .before .before .before .before .before .before .before .loop .inv) (omega arith) (holds (row (c .before)) (c .if1 .left))
+loop-again c = passed-more _ _ _ (c .before .before .before .before .loop .inv) (omega arith) (holds (row (c .before)) (c .if1 .left))
 
 returns-2 : tie.Need-returns-2 Inv-loop μ-loop
-unfolding rightsFit
 returns-2 c = passed-all _ _ _ (c .before .loop .inv) (c .loop-test .left)
 
 pub rights-fit-spec : {M : Type 1} → statement M

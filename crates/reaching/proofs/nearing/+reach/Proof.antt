@@ -16,25 +16,25 @@ use Rattle.reaching.proofs.nearing.stands.Reads as stands-reads
 use Rattle.reaching.proofs.nearing.+reach.{statement}
 use Rattle.reaching.proofs.nearing.+reach.Tie.{close}
 
-abbrev μ-reach : Measures 1 reach-kinds.ps ℕ
-μ-reach κs a = a .1 .1 .1 .0
+abbrev μ-reach : Measures 2 reach-kinds.ps ℕ
+μ-reach κs a = a .1 .1 .1 .1 .1 .1 .0
 
 -- what `reach` is given at the measure t, and what a call of it asks below t
-abbrev reach-at : ℕ → In 1 reach-kinds.ps
-reach-at t = and 1 reach-kinds.ps (is 1 reach-kinds.ps μ-reach t) reach.Pre
+abbrev reach-at : ℕ → In 2 reach-kinds.ps
+reach-at t = and 2 reach-kinds.ps (is 2 reach-kinds.ps μ-reach t) reach.Pre
 
-abbrev reach-below : ℕ → In 1 reach-kinds.ps
-reach-below t = and 1 reach-kinds.ps (falls 1 reach-kinds.ps _<_ μ-reach t) reach.Pre
+abbrev reach-below : ℕ → In 2 reach-kinds.ps
+reach-below t = and 2 reach-kinds.ps (falls 2 reach-kinds.ps _<_ μ-reach t) reach.Pre
 
 -- what it calls: itself below t, `stands` and `nearer`
 abbrev calls : ℕ → reach-lts.Claims
 calls t = (reach-below t, reach.Post, stands-reads.Asked, stands-reads.Learnt, nearer-reads.Asked, nearer-reads.Learnt)
 
 reach-array-write-to : (t : ℕ) → reach-lts.Need-array-write-to (calls t) (reach-at t) reach.Post
-reach-array-write-to t c = omega arith
+reach-array-write-to t c = omega (arith, c .before .before .before .before .pre .1 .1)
 
 reach-returns : (t : ℕ) → reach-lts.Need-returns (calls t) (reach-at t) reach.Post
-reach-returns t c = let at = c .before .before in rw (c .if1 .taken) (reach-none (at .args .setup) (at .args .b) (at .pre .1 .1))
+reach-returns t c = λ s tb. rw (c .if1 .taken) (reach-none s (c .before .before .before .before .args .b) (c .before .before .before .before .pre .1 .1))
 
 reach-sub-less : (t : ℕ) → reach-lts.Need-sub-less (calls t) (reach-at t) reach.Post
 reach-sub-less t c = omega arith
@@ -50,9 +50,10 @@ reach-stands-requires t c κs = search needs
 
 reach-returns-2 : (t : ℕ) → reach-lts.Need-returns-2 (calls t) (reach-at t) reach.Post
 reach-returns-2 t c =
-    let at = c .before .before .before .before .before .before in
-    none-stands (at .args .setup) (at .args .b) _ (at .args .n - 1) (c .before .before .before .reach .ensures) (omega (arith, at .pre .1 .2)) (fails (c .before .stands .ensures) (c .if2 .taken))
-    ∙ reach-more (at .args .setup) (at .args .b) (at .args .n) (c .before .before .before .before .if1 .left)
+    let at = c .before .before .before .before .before .before .before .before in
+    λ s tb.
+    none-stands s (at .args .b) _ (at .args .n - 1) (c .before .before .before .reach .ensures s tb) (omega (arith, at .pre .1 .2)) (fails (c .before .stands .ensures) (c .if2 .taken))
+    ∙ reach-more s (at .args .b) (at .args .n) (c .before .before .before .before .if1 .left)
 
 reach-slice-aggregate-nearer : (t : ℕ) → reach-lts.Need-slice-aggregate-nearer (calls t) (reach-at t) reach.Post
 reach-slice-aggregate-nearer t c = search needs
@@ -62,8 +63,8 @@ reach-nearer-requires t c κs = search needs
 
 reach-returns-3 : (t : ℕ) → reach-lts.Need-returns-3 (calls t) (reach-at t) reach.Post
 reach-returns-3 t c =
-    let at = c .before .before .before .before .before .before .before .before in
-    rw (c .nearer .ensures, c .before .before .before .before .before .reach .ensures) (reach-more (at .args .setup) (at .args .b) (at .args .n) (c .before .before .before .before .before .before .if1 .left))
+    let at = c .before .before .before .before .before .before .before .before .before .before in
+    λ s tb. rw (c .nearer .ensures s tb, c .before .before .before .before .before .reach .ensures s tb) (reach-more s (at .args .b) (at .args .n) (c .before .before .before .before .before .before .if1 .left))
 
 pub +reach-spec : {M : Type 1} → statement M
 +reach-spec = close μ-reach λ t. reach-lts.spec (calls t)

@@ -2,9 +2,9 @@
 -- Assumes nothing.
 use Prim.Native.Nat.{_<_}
 use native.Mathlib.Omega.{arith}
+use borrow.Author.Needs.{needs}
 use lib.ListN.{length}
 use Rattle.reaching.proofs.Nearer.{nearer-was, nearer-one, nearer-none}
-use borrow.Author.Needs.{needs}
 use Rattle.reaching.proofs.nearing.nearer_at.Statement.{statement}
 use Rattle.reaching.proofs.nearing.nearer_at.Tie as tie
 
@@ -13,9 +13,9 @@ shared-slice-read-was c = search needs
 
 returns : tie.Need-returns
 returns c =
-    let at = c .before .before .before .before in
-    let there : at .args .d < length (at .args .before .now) = omega arith in
-    nearer-was (at .args .setup) (at .args .before .now) (at .args .n) (at .args .d) there (c .if1 .taken)
+    let a = c .before .before .before .before .before .before .args in
+    let there : a .d < length (a .before .now) = omega (arith, c .before .before .before .before .before .before .pre .1, c .before .before .before .before .before .before .pre .3) in
+    λ s t. nearer-was s (a .before .now) (a .n) (a .d) there (c .if1 .taken)
 
 next-desk-requires : tie.Need-next-desk-requires
 next-desk-requires c κs = search needs
@@ -28,15 +28,17 @@ add-result c = search needs
 
 returns-2 : tie.Need-returns-2
 returns-2 c =
-    let at = c .before .before .before .before .before .before in
-    let there : at .args .d < length (at .args .before .now) = omega arith in
-    nearer-one (at .args .setup) (at .args .before .now) (at .args .n) (at .args .d) there (c .before .before .if1 .left) (omega arith)
+    let a = c .before .before .before .before .before .before .before .before .args in
+    let there : a .d < length (a .before .now) = omega (arith, c .before .before .before .before .before .before .before .before .pre .1, c .before .before .before .before .before .before .before .before .pre .3) in
+    λ s t.
+    nearer-one s (a .before .now) (a .n) (a .d) there (c .before .before .if1 .left) (rw (← c .before .next-desk .ensures s t) (c .if2 .taken))
 
 returns-3 : tie.Need-returns-3
 returns-3 c =
-    let at = c .before .before .before .before .before .before in
-    let there : at .args .d < length (at .args .before .now) = omega arith in
-    nearer-none (at .args .setup) (at .args .before .now) (at .args .n) (at .args .d) there (c .before .before .if1 .left) (omega arith)
+    let a = c .before .before .before .before .before .before .before .before .args in
+    let there : a .d < length (a .before .now) = omega (arith, c .before .before .before .before .before .before .before .before .pre .1, c .before .before .before .before .before .before .before .before .pre .3) in
+    λ s t.
+    nearer-none s (a .before .now) (a .n) (a .d) there (c .before .before .if1 .left) (rw (← c .before .next-desk .ensures s t) (c .if2 .left))
 
 pub nearer-at-spec : {M : Type 1} → statement M
 nearer-at-spec =

@@ -1,7 +1,7 @@
 -- `routes::report::report` meets its contract: the refusal, no route and the list are the report's, and so they meet demand 3.
 -- Assumes nothing.
 use Prim.Native.Nat.{ℕ, _<_, _≤_}
-use mathlib.Core.Path.{_≡_, ap, sym, _∙_}
+use mathlib.Core.Path.{_≡_, refl, ap, sym, _∙_}
 use mathlib.Core.Logic.{_≢_}
 use mathlib.Core.List.{List}
 use native.Mathlib.Omega.{arith}
@@ -9,7 +9,9 @@ use lib.ListN.{length, getD}
 use borrow.Author.Needs.{needs}
 use Rattle.rules.specs.Sizes.{mostDesks}
 use Rattle.rules.specs.declared.Setup.{Setup}
+use Rattle.rules.proofs.Sizes.{length-table}
 use Rattle.rules.proofs.Setups.{accepted-sizes}
+use Rattle.reaching.specs.Filed.{TablesOf}
 use Rattle.chains.specs.Chains.{far, linksTo}
 use Rattle.routes.specs.Reports.{routeRefusal, routed, roomAfter, routeNumbersOf}
 use Rattle.routes.specs.Demand3.{Demand3}
@@ -32,41 +34,54 @@ returns : tie.Need-returns
 returns c =
     let at = c .before .before .before .args in
     let e = c .before .route-refusal .ensures in
-    let h : routeRefusal (at .setup) (at .a) (at .b) (length (at .room .now)) ≢ 0 = λ z. c .if1 .taken (e ∙ z) in
-    promised (at .setup) (at .a) (at .b) (at .room .now) (rw (routed-refused (at .setup) (at .a) (at .b) (at .room .now) h) (simp e)) (sym (room-refused (at .setup) (at .a) (at .b) (at .room .now) h))
+    let h : routeRefusal (at .t1) (at .a) (at .b) (length (at .room .now)) ≢ 0 = λ z. c .if1 .taken (e ∙ z) in
+    promised (at .t1) (at .a) (at .b) (at .room .now) (rw (routed-refused (at .t1) (at .a) (at .b) (at .room .now) h) (simp e)) (sym (room-refused (at .t1) (at .a) (at .b) (at .room .now) h))
+
+cast-processes : tie.Need-cast-processes
+cast-processes c = search needs
+
+cast-files : tie.Need-cast-files
+cast-files c = search needs
 
 -- no refusal is given: the setup is accepted, and the two desks are below the most desks
-unrefused : (c : tie.Else1) → (let at = c .before .before .before .args in routeRefusal (at .setup) (at .a) (at .b) (length (at .room .now)) ≡ 0)
+unrefused : (c : tie.Else1) → (let at = c .before .before .before .args in routeRefusal (at .t1) (at .a) (at .b) (length (at .room .now)) ≡ 0)
 unrefused c = sym (c .before .route-refusal .ensures) ∙ c .if1 .left
 
-sound : (c : tie.Else1) → (let at = c .before .before .before .args in Sound (at .setup) (at .a) (at .b) (length (at .room .now)))
+sound : (c : tie.Else1) → (let at = c .before .before .before .args in Sound (at .t1) (at .a) (at .b) (length (at .room .now)))
 sound c = route-sound _ _ _ _ (unrefused c)
 
 desks : (c : tie.Else1) → (c .before .before .before .args .a < mostDesks) × (c .before .before .before .args .b < mostDesks)
 desks c = let h = sound c in let sizes = accepted-sizes _ (h .setup) in omega (arith, h .from, h .onto, sizes .of-desks .high)
 
 firsts-requires : tie.Need-firsts-requires
-firsts-requires c κs = sound c .setup
+firsts-requires c κs = sound (c) .setup
 
 slice-aggregate-reach : tie.Need-slice-aggregate-reach
 slice-aggregate-reach c = search needs
 
+-- the tables that are lent are the setup's own, and the lowest processes are those of its desks
+firsts-long : (c : tie.After-firsts) → length (c .firsts .result) ≡ mostDesks
+firsts-long c = rw (c .firsts .ensures) (length-table mostDesks _)
+
+own : (c : tie.After-firsts) → let s = c .before .before .before .before .args .t1 in TablesOf s (s .processes) (s .files) (s .rights) (s .class) (c .firsts .result)
+own c = record { count = refl; number = refl; own-rights = refl; own-class = refl; lowest = c .firsts .ensures }
+
 reach-requires : tie.Need-reach-requires
-reach-requires c κs = (c .before .firsts .ensures, desks (c .before .before) .1, omega arith)
+reach-requires c κs = (firsts-long (c .before .before .before .before .before .before), desks (c .before .before .before .before .before .before .before) .1, omega arith)
 
 -- what is read at desk a is its number of links to desk b
-links : (c : tie.After-reach) → (let at = c .before .before .before .before .before .before .args in getD (c .reach .result) (at .a) 0 ≡ linksTo (at .setup) (at .b) (at .a))
-links c = rw (c .reach .ensures) (reach-at _ _ _ (desks (c .before .before .before) .0))
+links : (c : tie.After-reach) → (let at = c .before .before .before .before .before .before .before .before .before .before .before .args in getD (c .reach .result) (at .a) 0 ≡ linksTo (at .t1) (at .b) (at .a))
+links c = rw (c .reach .ensures _ (own (c .before .before .before .before .before .before .before))) (reach-at _ _ _ (desks (c .before .before .before .before .before .before .before .before) .0))
 
 array-read-links : tie.Need-array-read-links
-array-read-links c = omega (arith, desks (c .before .before .before) .0)
+array-read-links c = omega (arith, desks (c .before .before .before .before .before .before .before .before) .0)
 
 returns-2 : tie.Need-returns-2
 returns-2 c =
-    let at = c .before .before .before .before .before .before .before .args in
-    let e = unrefused (c .before .before .before .before) in
-    let h : far ≤ linksTo (at .setup) (at .b) (at .a) = omega (arith, links (c .before), c .if2 .taken) in
-    promised (at .setup) (at .a) (at .b) (at .room .now) (sym (routed-none (at .setup) (at .a) (at .b) (at .room .now) e h)) (sym (room-none (at .setup) (at .a) (at .b) (at .room .now) e h))
+    let at = c .before .before .before .before .before .before .before .before .before .before .before .before .args in
+    let e = unrefused (c .before .before .before .before .before .before .before .before .before) in
+    let h : far ≤ linksTo (at .t1) (at .b) (at .a) = omega (arith, links (c .before), c .if2 .taken) in
+    promised (at .t1) (at .a) (at .b) (at .room .now) (sym (routed-none (at .t1) (at .a) (at .b) (at .room .now) e h)) (sym (room-none (at .t1) (at .a) (at .b) (at .room .now) e h))
 
 slice-aggregate-write-route : tie.Need-slice-aggregate-write-route
 slice-aggregate-write-route c = search needs
@@ -76,15 +91,15 @@ slice-aggregate-write-route-2 c = search needs
 
 write-route-requires : tie.Need-write-route-requires
 write-route-requires c κs =
-    let h = sound (c .before .before .before .before .before .before .before) in
+    let h = sound (c .before .before .before .before .before .before .before .before .before .before .before .before) in
     record {
       setup = h .setup;
-      from = desks (c .before .before .before .before .before .before .before) .0;
-      onto = desks (c .before .before .before .before .before .before .before) .1;
+      from = desks (c .before .before .before .before .before .before .before .before .before .before .before .before) .0;
+      onto = desks (c .before .before .before .before .before .before .before .before .before .before .before .before) .1;
       apart = h .apart;
       near = omega (arith, links (c .before .before .before .before), c .before .before .before .if2 .left);
-      lowest = c .before .before .before .before .before .before .firsts .ensures;
-      reached = c .before .before .before .before .reach .ensures;
+      lowest = c .before .before .before .before .before .before .before .before .before .before .before .firsts .ensures;
+      reached = c .before .before .before .before .reach .ensures _ (own (c .before .before .before .before .before .before .before .before .before .before .before));
       spacious = h .spacious;
     }
 
@@ -97,19 +112,19 @@ mul-calls c = search needs
 add-calls : tie.Need-add-calls
 add-calls c = search needs
 
-cast-t28 : tie.Need-cast-t28
-cast-t28 c = search needs
+cast-t18 : tie.Need-cast-t18
+cast-t18 c = search needs
 
 same-length : tie.Need-same-length
 same-length c = search needs
 
 returns-3 : tie.Need-returns-3
 returns-3 c =
-    let at = c .before .before .before .before .before .before .before .before .before .before .before .before .before .args in
-    let e = unrefused (c .before .before .before .before .before .before .before .before .before .before) in
-    let h : linksTo (at .setup) (at .b) (at .a) < far = omega (arith, links (c .before .before .before .before .before .before .before), c .before .before .before .before .before .before .if2 .left) in
-    promised (at .setup) (at .a) (at .b) (at .room .now) (rw (routed-shown (at .setup) (at .a) (at .b) (at .room .now) e h) (simp (links (c .before .before .before .before .before .before .before))))
-    (rw (room-shown (at .setup) (at .a) (at .b) (at .room .now) e h) (c .before .before .write-route .ensures))
+    let at = c .before .before .before .before .before .before .before .before .before .before .before .before .before .before .before .before .before .before .args in
+    let e = unrefused (c .before .before .before .before .before .before .before .before .before .before .before .before .before .before .before) in
+    let h : linksTo (at .t1) (at .b) (at .a) < far = omega (arith, links (c .before .before .before .before .before .before .before), c .before .before .before .before .before .before .if2 .left) in
+    promised (at .t1) (at .a) (at .b) (at .room .now) (rw (routed-shown (at .t1) (at .a) (at .b) (at .room .now) e h) (simp (links (c .before .before .before .before .before .before .before))))
+    (rw (room-shown (at .t1) (at .a) (at .b) (at .room .now) e h) (c .before .before .write-route .ensures))
 
 pub report-spec : {M : Type 1} → statement M
 report-spec =
@@ -117,6 +132,8 @@ report-spec =
     (tie.spec
     route-refusal-requires
     returns
+    cast-processes
+    cast-files
     firsts-requires
     slice-aggregate-reach
     reach-requires
@@ -128,6 +145,6 @@ report-spec =
     cast-calls
     mul-calls
     add-calls
-    cast-t28
+    cast-t18
     same-length
     returns-3)
