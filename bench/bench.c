@@ -318,6 +318,15 @@ static void make_line(dw_setup *s)
         s->class_of[f] = (uint8_t)(DW_CLASSES - 1 - f % DW_CLASSES);
 }
 
+/* The line without its first desk, which has a link to the last at once: the search in C ends there, the report does not. */
+static void make_shortcut(dw_setup *s)
+{
+    make_line(s);
+    s->rights[0] = DW_NONE;
+    s->rights[DW_CLASSES - 1] = DW_W;
+    s->rights[(DW_DESKS - 1) * DW_CLASSES + DW_CLASSES - 1] = DW_RW;
+}
+
 static void make_full(dw_setup *s)
 {
     make_line(s);
@@ -380,6 +389,7 @@ int main(void)
     measure_route("route, 16 desks in a line", make_line, 0, DW_DESKS - 1);
     measure_route("no route, back along the line", make_line, DW_DESKS - 1, 0);
     measure_route("route, all rights set", make_full, 0, DW_DESKS - 1);
+    measure_route("route at once, beside a line", make_shortcut, 0, DW_DESKS - 1);
     if (went * 2 < DW_CALLS) {
         printf("FAILED: fewer than half of the calls go through\n");
         return 1;

@@ -308,5 +308,5 @@ dw_answer peer_route(const dw_setup *setup, uint32_t a, uint32_t b, uint32_t *ro
     if (r.links[a] == DW_DESKS)
         return answer(DW_NO_ROUTE, 0);
     write_list(&r, a, b, room);
-    return answer(DW_ROUTE, 4 * r.links[a] + 1);
+    return answer(DW_ROUTE, DW_ROUTE_CALLS(r.links[a]));
 }

@@ -64,8 +64,10 @@ extern "C" {
 #define DW_CALL_WIDTH 4
 #define DW_ANSWER_WIDTH 2
 
-/* Room for the list of a route: at most 61 calls. */
-#define DW_ROUTE_NUMBERS (61 * DW_CALL_WIDTH)
+/* A route over k links is shown by 4k + 1 calls, and a chain needs one link less than there are desks. So this is room for
+ * every list: 61 calls, 244 numbers. */
+#define DW_ROUTE_CALLS(links) (4 * (links) + 1)
+#define DW_ROUTE_NUMBERS (DW_ROUTE_CALLS(DW_DESKS - 1) * DW_CALL_WIDTH)
 
 /* ---- Rights, calls, answers. */
 
@@ -205,12 +207,16 @@ dw_called dw_call(dw_setup setup, dw_store store, uint32_t op, uint32_t p, uint3
 dw_listed dw_run(dw_setup setup, dw_store store, const uint32_t *calls, size_t calls_len,
                  uint32_t *answers, size_t answers_len);
 
-/* Whether desk b can ever hear desk a. DW_NO_ROUTE is answered exactly when, for every list of calls
- * from a fresh store, striking out a's calls changes none of b's answers. Otherwise a list of calls that
- * shows the difference is written to the front of room, four numbers a call, for dw_run: run from a
- * fresh store it gives b a last answer of figure 1, and of figure 0 with a's calls struck out. It goes
- * along the chain of fewest links, among those the one with the smallest desk at the first difference,
- * and has 4k + 1 calls for k links. What lies past the list keeps its values.
+/* Whether desk b can ever hear desk a. A call belongs to the desk of its process; one of a process that
+ * does not exist belongs to none. DW_NO_ROUTE is answered exactly when, for every list of calls from a
+ * fresh store, striking out a's calls changes none of b's answers. Otherwise a list of calls that shows
+ * the difference is written to the front of room, four numbers a call, for dw_run: run from a fresh store
+ * it gives b a last answer of figure 1, and of figure 0 with a's calls struck out.
+ * A link runs from desk d to desk e when d has W and e has R on the class of some file, and each of the
+ * two has a process. The list goes along the chain of fewest links from a to b, among those the one with
+ * the smallest desk at the first difference. Each desk acts by its lowest process, each link uses the
+ * lowest file that serves it: a's LOCK, WRITE of 1, UNLOCK; each middle desk's OPEN of the file before
+ * it, LOCK of the next, COPY, UNLOCK; b's OPEN and READ. What lies past the list keeps its values.
  * Refusals, in this order: 15, 12, 13, 11. A refusal, and DW_NO_ROUTE, write nothing. */
 dw_answer dw_route(dw_setup setup, uint32_t a, uint32_t b, uint32_t *room, size_t room_len);
 

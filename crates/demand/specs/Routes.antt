@@ -5,21 +5,34 @@ use Rattle.rules.specs.Calls.{Numbers, numbers, codeOfWrite, codeOfCopy}
 use Rattle.rules.specs.declared.Setup.{Setup}
 use Rattle.chains.specs.Chains.{processAt, fileFor}
 
--- the calls of the list as four numbers, by the codes of their names
+-- the column "Code", for the calls of the list
+abbrev pub codeOfRead : ℕ
+codeOfRead = 1
+
+abbrev pub codeOfLock : ℕ
+codeOfLock = 3
+
+abbrev pub codeOfUnlock : ℕ
+codeOfUnlock = 4
+
+abbrev pub codeOfOpen : ℕ
+codeOfOpen = 5
+
+-- the calls of the list as four numbers
 abbrev pub readCall : ℕ → ℕ → Numbers
-readCall p f = numbers 1 p f 0
+readCall p f = numbers codeOfRead p f 0
 
 abbrev pub writeCall : ℕ → ℕ → ℕ → Numbers
 writeCall p f x = numbers codeOfWrite p f x
 
 abbrev pub lockCall : ℕ → ℕ → Numbers
-lockCall p f = numbers 3 p f 0
+lockCall p f = numbers codeOfLock p f 0
 
 abbrev pub unlockCall : ℕ → ℕ → Numbers
-unlockCall p f = numbers 4 p f 0
+unlockCall p f = numbers codeOfUnlock p f 0
 
 abbrev pub openCall : ℕ → ℕ → Numbers
-openCall p f = numbers 5 p f 0
+openCall p f = numbers codeOfOpen p f 0
 
 abbrev pub copyCall : ℕ → ℕ → ℕ → Numbers
 copyCall p f x = numbers codeOfCopy p f x

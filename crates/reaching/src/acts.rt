@@ -42,7 +42,7 @@ pub fn lowest_process(firsts: &[u8], d: usize) -> usize
     firsts[d] as usize
 }
 
-// From a setup's two tables, lent, so that none is copied for a look at one entry.
+// Desk d writes and desk e reads the class of file f. The two tables are lent, so that none is copied for a look.
 fn serves<'a>(rights: &'a [u8], class: &'a [u8], d: usize, e: usize, f: usize) -> bool
     requires { ⌜ (d < mostDesks) × (e < mostDesks) ⌝ }
     ensures { λ r. ⌜ r ≡ serves (filed 0 (now (rights .entry)) (now (class .entry))) d e f ⌝ }
@@ -54,7 +54,7 @@ fn serves<'a>(rights: &'a [u8], class: &'a [u8], d: usize, e: usize, f: usize) -
     has_r(entry_at(rights, e * CLASSES + t))
 }
 
-// The lowest file below the number of files, and that number where none serves.
+// The lowest file that serves, below the number of files, and that number where none does.
 pub fn file_for<'a>(files: usize, rights: &'a [u8], class: &'a [u8], d: usize, e: usize) -> usize
     requires { ⌜ (d < mostDesks) × (e < mostDesks) ⌝ }
     ensures { λ r. ⌜ r ≡ fileFor (filed files (now (rights .entry)) (now (class .entry))) d e ⌝ }
@@ -69,4 +69,11 @@ pub fn file_for<'a>(files: usize, rights: &'a [u8], class: &'a [u8], d: usize, e
         }
         f += 1;
     }
+}
+
+pub fn serving_file(setup: Setup, d: usize, e: usize) -> usize
+    requires { ⌜ (d < mostDesks) × (e < mostDesks) ⌝ }
+    ensures { λ r. ⌜ r ≡ fileFor setup d e ⌝ }
+{
+    file_for(setup.files as usize, &setup.rights, &setup.class, d, e)
 }

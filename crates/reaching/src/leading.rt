@@ -1,12 +1,13 @@
 // The link from desk to desk, and the next desk of a chain. A setup's tables are lent, so that none is copied for a look.
 use crate::acts::file_for;
 use rules::DESKS;
+use rules::Setup;
 ghost use mathlib.Core.Path.{_≡_};
 ghost use Prim.Native.Nat.{_<_};
 ghost use lib.ListN.{length};
-ghost use Rattle.rules.specs.Sizes.{mostDesks};
+ghost use Rattle.rules.specs.Sizes.{mostDesks, table};
 ghost use Rattle.rules.specs.Links.{linked};
-ghost use Rattle.chains.specs.Chains.{nextDesk};
+ghost use Rattle.chains.specs.Chains.{processAt, nextDesk};
 ghost use Rattle.reaching.specs.Filed.{ForTables};
 
 // Each of the two has a process, and some file serves.
@@ -56,4 +57,23 @@ pub fn next_desk<'a>(
         }
         e += 1;
     }
+}
+
+// The same from a setup: for the few steps along a chain a copy of it costs little.
+pub fn desk_after(setup: Setup, firsts: &[u8], to: &[u8], d: usize, k: usize) -> usize
+    requires { ⌜ (now firsts ≡ table mostDesks (processAt setup)) × (length (now to) ≡ mostDesks) × (d < mostDesks) ⌝ }
+    ensures { λ r. ⌜ r ≡ nextDesk setup (now (to .entry)) d k ⌝ }
+{
+    let processes = setup.processes as usize;
+    let files = setup.files as usize;
+    next_desk(
+        processes,
+        files,
+        &setup.rights,
+        &setup.class,
+        firsts,
+        to,
+        d,
+        k,
+    )
 }

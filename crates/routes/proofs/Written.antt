@@ -13,7 +13,7 @@ use Rattle.rules.specs.Calls.{Numbers}
 use Rattle.rules.specs.Links.{linked}
 use Rattle.rules.specs.declared.Setup.{Setup}
 use Rattle.rules.proofs.Lists.{getElem?-getD}
-use Rattle.rules.proofs.Sizes.{length-table, getD-table}
+use Rattle.rules.proofs.Sizes.{length-table}
 use Rattle.rules.proofs.Setups.{accepted-sizes}
 use Rattle.lists.specs.Lists.{callWidth}
 use Rattle.chains.specs.Chains.{processAt, fileFor, isChain, Taken, mostLinks, far, reach, linksTo, nextDesk, walk, chainOf}
@@ -120,9 +120,6 @@ module _ {s : Setup} {firsts to : List ℕ} {a b : ℕ} {room : List ℕ} (h : R
 
   pub to-long : length to ≡ mostDesks
   to-long = rw (h .reached) (reach-long s b mostLinks)
-
-  pub process-at : (d : ℕ) → d < mostDesks → getD firsts d 0 ≡ processAt s d
-  process-at d l = rw (h .lowest) (getD-table mostDesks (processAt s) d 0 l)
 
   taken : Taken s a b (chainOf s a b)
   taken = chainOf-taken s (h .setup) a b (h .from) (h .near)

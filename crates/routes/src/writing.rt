@@ -1,8 +1,8 @@
 // Writing the list that shows a route into a lent room.
 use lists::CALL_WIDTH;
-use reaching::acts::file_for;
 use reaching::acts::lowest_process;
-use reaching::leading::next_desk;
+use reaching::acts::serving_file;
+use reaching::leading::desk_after;
 use rules::Setup;
 ghost use mathlib.Core.Path.{_≡_};
 ghost use mathlib.Core.List.{[], _∷_, _++_};
@@ -85,35 +85,15 @@ pub fn write_route(setup: Setup, firsts: &[u8], to: &[u8], a: usize, b: usize, r
     requires { ⌜ Ready setup (now firsts) (now to) a b (now room) ⌝ }
     ensures { λ _. ⌜ now (room .exit) ≡ inQuads (routeCalls setup a (chainOf setup a b)) ++ drop (callsFor (linksTo setup b a) * callWidth) (now (room .entry)) ⌝ }
 {
-    let processes = setup.processes as usize;
-    let files = setup.files as usize;
     let mut k = to[a] as usize - 1;
-    let mut d = next_desk(
-        processes,
-        files,
-        &setup.rights,
-        &setup.class,
-        firsts,
-        to,
-        a,
-        k,
-    );
-    let mut f = file_for(files, &setup.rights, &setup.class, a, d);
+    let mut d = desk_after(setup, firsts, to, a, k);
+    let mut f = serving_file(setup, a, d);
     put_start(room, lowest_process(firsts, a) as u32, f as u32);
     let mut i = START_CALLS;
     while 0 < k {
         let left = k - 1;
-        let e = next_desk(
-            processes,
-            files,
-            &setup.rights,
-            &setup.class,
-            firsts,
-            to,
-            d,
-            left,
-        );
-        let g = file_for(files, &setup.rights, &setup.class, d, e);
+        let e = desk_after(setup, firsts, to, d, left);
+        let g = serving_file(setup, d, e);
         put_middle(
             room,
             i,
