@@ -1,9 +1,10 @@
 -- Laws of the number that one link more gives a desk, by the next desk from there, and so of reach in n links by reach in one less.
 -- Assumes nothing.
 use Prim.Native.Nat.{ℕ, zero, suc, _+_, _-_, _<_, _≤_}
-use mathlib.Core.Path.{_≡_, refl, sym, _∙_}
+use mathlib.Core.Path.{_≡_, refl, ap, sym, _∙_}
 use mathlib.Core.Bool.{true, false, cond, true≢false}
 use mathlib.Core.List.{List}
+use mathlib.Core.Logic.{inl, inr, ⊎-elim}
 use native.Mathlib.Nat.{le-antisymm}
 use native.Mathlib.Omega.{arith}
 use native.Mathlib.Numerals.{add-one, sub-one}
@@ -17,6 +18,7 @@ use Rattle.rules.proofs.Lists.{by-test, cond-holds}
 use Rattle.rules.proofs.Sizes.{length-table, getD-table, table-is, someBelow-true, someBelow-iff}
 use Rattle.chains.specs.Chains.{mostLinks, far, leads, nearer, reach, nextDesk}
 use Rattle.chains.proofs.Reach.{leads-iff}
+use Rattle.reaching.specs.Filed.{ReachedBy}
 use Rattle.reaching.proofs.Linked.{lowest-some, getD-inside}
 
 module _ (s : Setup) (before : List ℕ) (n d : ℕ) (l : d < length before) where
@@ -91,3 +93,14 @@ module _ (s : Setup) (b : ℕ) where
   pub none-stands : (before : List ℕ) (n : ℕ) → before ≡ reach s b n → n ≤ mostLinks → someBelow (length before) (λ e. eqb (getD before e 0) n) ≡ false
       → before ≡ table mostDesks (nearer s (reach s b n) n)
   none-stands before n q h e = q ∙ reach-same n h (rw (q, reach-long n) at e)
+
+  -- where desk a has no number yet, the numbers go as far as they were to
+  pub not-yet : {a n : ℕ} {before : List ℕ} → ReachedBy s a b n before → far ≤ getD before a 0 → before ≡ reach s b n
+  not-yet h l = ⊎-elim (λ q. h .are ∙ ap (reach s b) q) (λ k. absurd (omega arith)) (h .ends)
+
+  pub as-far : {a n : ℕ} {to : List ℕ} → to ≡ reach s b n → ReachedBy s a b n to
+  as-far {n = n} e = record { level = n; within = omega arith; are = e; ends = inl refl }
+
+  -- and where it has one, they need go no further
+  pub no-further : {a n m : ℕ} {to : List ℕ} → ReachedBy s a b n to → n ≤ m → getD to a 0 < far → ReachedBy s a b m to
+  no-further h k l = record { level = h .level; within = omega (arith, h .within); are = h .are; ends = inr l }

@@ -6,8 +6,8 @@ ghost use Prim.Native.Nat.{_<_, _≤_};
 ghost use lib.Dec.{eqb};
 ghost use lib.ListN.{length, getD};
 ghost use Rattle.rules.specs.Sizes.{mostDesks, someBelow, table};
-ghost use Rattle.reaching.specs.Filed.{ForTables};
-ghost use Rattle.chains.specs.Chains.{mostLinks, nearer, reach};
+ghost use Rattle.reaching.specs.Filed.{ForTables, ReachedBy};
+ghost use Rattle.chains.specs.Chains.{mostLinks, nearer};
 
 // A number past every number of links that a chain needs.
 pub const FAR: u8 = DESKS as u8;
@@ -79,11 +79,12 @@ pub fn reach<'a>(
     rights: &'a [u8],
     class: &'a [u8],
     firsts: &[u8],
+    a: usize,
     b: usize,
     n: usize,
 ) -> [u8; DESKS]
-    requires { ⌜ (length (now firsts) ≡ mostDesks) × (b < mostDesks) × (n ≤ mostLinks) ⌝ }
-    ensures { λ r. ⌜ ForTables processes files (now (rights .entry)) (now (class .entry)) (now (firsts .entry)) (λ s. r ≡ reach s b n) ⌝ }
+    requires { ⌜ (length (now firsts) ≡ mostDesks) × (a < mostDesks) × (b < mostDesks) × (n ≤ mostLinks) ⌝ }
+    ensures { λ r. ⌜ ForTables processes files (now (rights .entry)) (now (class .entry)) (now (firsts .entry)) (λ s. ReachedBy s a b n r) ⌝ }
 {
     if n == 0 {
         let mut to = [FAR; DESKS];
@@ -91,7 +92,11 @@ pub fn reach<'a>(
         return to;
     }
     let less = n - 1;
-    let before = reach(processes, files, rights, class, firsts, b, less);
+    let before = reach(processes, files, rights, class, firsts, a, b, less);
+    // Once a has its number, every desk on its way has one.
+    if before[a] < FAR {
+        return before;
+    }
     // No link leads to a desk that stands there if none does.
     if !stands(&before, less) {
         return before;

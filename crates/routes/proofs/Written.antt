@@ -4,6 +4,7 @@ use Prim.Native.Nat.{ℕ, zero, suc, _+_, _-_, _*_, _<_, _≤_}
 use mathlib.Core.Path.{_≡_, refl, ap, sym, _∙_}
 use mathlib.Core.Bool.{true}
 use mathlib.Core.List.{List, [], _∷_, _++_, append-assoc}
+use mathlib.Core.Logic.{⊎-elim}
 use native.Mathlib.Nat.{add-zero}
 use native.Mathlib.Omega.{arith}
 use lib.ListN.{length, getD, drop, length-append}
@@ -19,7 +20,10 @@ use Rattle.lists.specs.Lists.{callWidth}
 use Rattle.chains.specs.Chains.{processAt, fileFor, isChain, Taken, mostLinks, far, reach, linksTo, nextDesk, walk, chainOf}
 use Rattle.chains.proofs.Chains.{chain-none, chain-first, some-link, link-end}
 use Rattle.chains.proofs.Acts.{link-acts}
+use Rattle.chains.proofs.Reach.{reach-else}
 use Rattle.chains.proofs.Walk.{chainOf-length, chainOf-taken}
+use Rattle.chains.proofs.Settled.{reach-settled, walk-settled}
+use Rattle.reaching.specs.Filed.{ReachedBy}
 use Rattle.demand.specs.Routes.{onward, routeCalls, callsFor}
 use Rattle.demand.proofs.Routes.{routeCalls-length}
 use Rattle.routes.specs.Reports.{inQuads}
@@ -32,12 +36,29 @@ unfolding reach
 reach-long s b zero = length-table mostDesks _
 reach-long s b (suc n) = length-table mostDesks _
 
--- and what is read there is the number of links
-pub reach-at : (s : Setup) (b a : ℕ) → a < mostDesks → getD (reach s b mostLinks) a 0 ≡ linksTo s b a
-reach-at s b a l =
-    let to = reach s b mostLinks in
-    let inside : a < length to = omega (arith, reach-long s b mostLinks) in
-    cc (getElem?-getD to a 0 inside, getElem?-getD to a far inside)
+-- and a number at each
+reach-inside : (s : Setup) (b n a : ℕ) → a < mostDesks → getD (reach s b n) a 0 ≡ getD (reach s b n) a far
+reach-inside s b n a l =
+    let inside : a < length (reach s b n) = omega (arith, reach-long s b n) in
+    cc (getElem?-getD (reach s b n) a 0 inside, getElem?-getD (reach s b n) a far inside)
+
+-- what is read at desk a, once it has a number or the numbers go as far as they can
+module _ (s : Setup) (e : accepted s ≡ true) (a b : ℕ) (l : a < mostDesks) {to : List ℕ} (h : ReachedBy s a b mostLinks to) where
+  read-at : getD to a 0 ≡ getD (reach s b (h .level)) a far
+  read-at = rw (h .are) (reach-inside s b (h .level) a l)
+
+  pub told-near : getD to a 0 < far → getD to a 0 ≡ linksTo s b a
+  told-near k = read-at ∙ reach-settled s e b (h .level) a (h .within) l (omega (arith, read-at))
+
+  pub told-enough : getD to a 0 < far → linksTo s b a ≤ h .level
+  told-enough k =
+      ⊎-elim (λ q. omega (arith, told-near k, read-at, q)) (λ q. absurd (omega (arith, read-at, q)))
+      (reach-else s e b (h .level) (h .within) a l)
+
+  pub told-none : far ≤ getD to a 0 → far ≤ linksTo s b a
+  told-none k =
+      let none : far ≤ getD (reach s b (h .level)) a far = omega (arith, read-at) in
+      ⊎-elim (λ q. rw q at none) (λ q. absurd (omega arith)) (h .ends)
 
 -- k links lead on from desk d to desk b, file f lies before d, and from call i on the room has place for their calls
 pub record Left (s : Setup) (to : List ℕ) (b : ℕ) (room : List ℕ) (i d f k : ℕ) : Type 0 where
@@ -119,26 +140,25 @@ module _ {s : Setup} {firsts to : List ℕ} {a b : ℕ} {room : List ℕ} (h : R
   firsts-long = rw (h .lowest) (length-table mostDesks (processAt s))
 
   pub to-long : length to ≡ mostDesks
-  to-long = rw (h .reached) (reach-long s b mostLinks)
+  to-long = rw (h .reached) (reach-long s b (h .level))
 
   taken : Taken s a b (chainOf s a b)
   taken = chainOf-taken s (h .setup) a b (h .from) (h .near)
-
-  pub links-at : getD to a 0 ≡ linksTo s b a
-  links-at = rw (h .reached) (reach-at s b a (h .from))
 
   -- desks that are not equal are a link apart or more
   pub some-links : 0 < linksTo s b a
   some-links = omega (arith, some-link s a b (chainOf s a b) (taken .of-fewest .chain) (h .apart), chainOf-length s a b)
 
   pub first-link : linksTo s b a ≡ suc (getD to a 0 - 1)
-  first-link = omega (arith, links-at, some-links)
+  first-link = omega (arith, h .numbered, some-links)
 
   -- from the first link on, with k links after it
   module _ (k : ℕ) (e : linksTo s b a ≡ suc k) where
     start-walk : chainOf s a b ≡ nextDesk s to a k ∷ walk s to (nextDesk s to a k) k
     unfolding chainOf walk
-    start-walk = ap (walk s (reach s b mostLinks) a) e ∙ ap (λ (l : List ℕ). walk s l a (suc k)) (sym (h .reached))
+    start-walk =
+        ap (walk s (reach s b mostLinks) a) e ∙ sym (walk-settled s (h .setup) b (h .level) a (suc k) (h .within) (omega (arith, h .enough, e)))
+        ∙ ap (λ (l : List ℕ). walk s l a (suc k)) (sym (h .reached))
 
     start-chain : (linked s a (nextDesk s to a k) ≡ true) × (isChain s (nextDesk s to a k) b (walk s to (nextDesk s to a k) k) ≡ true)
     start-chain = chain-first s a b _ _ .0 (rw start-walk at (taken .of-fewest .chain))

@@ -4,7 +4,7 @@ use mathlib.Core.Path.{_≡_}
 use mathlib.Core.Bool.{true}
 use mathlib.Core.Logic.{_≢_}
 use mathlib.Core.List.{List, [], _∷_, _++_}
-use lib.ListN.{length, take, drop}
+use lib.ListN.{length, getD, take, drop}
 use Rattle.rules.specs.Sizes.{mostDesks, table}
 use Rattle.rules.specs.Setups.{accepted}
 use Rattle.rules.specs.Calls.{Numbers}
@@ -28,7 +28,7 @@ endCalls p f = openCall p f ∷ readCall p f ∷ []
 unfoldable pub withCalls : List ℕ → ℕ → List Numbers → List ℕ
 withCalls room i calls = take (i * callWidth) room ++ (inQuads calls ++ drop ((i + length calls) * callWidth) room)
 
--- a route runs from a to b: the lowest processes, the links from each desk to b, and room for the list are at hand
+-- a route runs from a to b: the lowest processes, the links from each desk to b as far as a's own, and room for the list are at hand
 pub record Ready (s : Setup) (firsts to : List ℕ) (a b : ℕ) (room : List ℕ) : Type 0 where
   pub setup : accepted s ≡ true
   pub from : a < mostDesks
@@ -36,5 +36,9 @@ pub record Ready (s : Setup) (firsts to : List ℕ) (a b : ℕ) (room : List ℕ
   pub apart : a ≢ b
   pub near : linksTo s b a < far
   pub lowest : firsts ≡ table mostDesks (processAt s)
-  pub reached : to ≡ reach s b mostLinks
+  pub level : ℕ
+  pub within : level ≤ mostLinks
+  pub reached : to ≡ reach s b level
+  pub numbered : getD to a 0 ≡ linksTo s b a
+  pub enough : linksTo s b a ≤ level
   pub spacious : mostRouteNumbers ≤ length room

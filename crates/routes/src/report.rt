@@ -68,6 +68,7 @@ pub fn report(setup: Setup, a: u32, b: u32, room: &mut [u32]) -> RouteAnswer
         &setup.rights,
         &setup.class,
         &firsts,
+        from,
         onto,
         LINKS,
     );

@@ -5,20 +5,20 @@ use mathlib.Core.Path.{_≡_, refl, ap, sym, _∙_}
 use mathlib.Core.Logic.{_≢_}
 use mathlib.Core.List.{List}
 use native.Mathlib.Omega.{arith}
-use lib.ListN.{length, getD}
+use lib.ListN.{length}
 use borrow.Author.Needs.{needs}
 use Rattle.rules.specs.Sizes.{mostDesks}
 use Rattle.rules.specs.declared.Setup.{Setup}
 use Rattle.rules.proofs.Sizes.{length-table}
 use Rattle.rules.proofs.Setups.{accepted-sizes}
-use Rattle.reaching.specs.Filed.{TablesOf}
-use Rattle.chains.specs.Chains.{far, linksTo}
+use Rattle.reaching.specs.Filed.{TablesOf, ReachedBy}
+use Rattle.chains.specs.Chains.{mostLinks, far, linksTo}
 use Rattle.routes.specs.Reports.{routeRefusal, routed, roomAfter, routeNumbersOf}
 use Rattle.routes.specs.Demand3.{Demand3}
 use Rattle.routes.specs.declared.RouteAnswer.{RouteAnswer}
 use Rattle.routes.proofs.Reports.{Sound, route-sound, routed-refused, room-refused, routed-none, room-none, routed-shown, room-shown}
 use Rattle.routes.proofs.Demands.{demand3-met}
-use Rattle.routes.proofs.Written.{reach-at}
+use Rattle.routes.proofs.Written.{told-near, told-enough, told-none}
 use Rattle.routes.proofs.report.report.Statement.{statement}
 use Rattle.routes.proofs.report.report.Tie as tie
 
@@ -67,11 +67,11 @@ own : (c : tie.After-firsts) → let s = c .before .before .before .before .args
 own c = record { count = refl; number = refl; own-rights = refl; own-class = refl; lowest = c .firsts .ensures }
 
 reach-requires : tie.Need-reach-requires
-reach-requires c κs = (firsts-long (c .before .before .before .before .before .before), desks (c .before .before .before .before .before .before .before) .1, omega arith)
+reach-requires c κs = (firsts-long (c .before .before .before .before .before .before), desks (c .before .before .before .before .before .before .before) .0, desks (c .before .before .before .before .before .before .before) .1, omega arith)
 
--- what is read at desk a is its number of links to desk b
-links : (c : tie.After-reach) → (let at = c .before .before .before .before .before .before .before .before .before .before .before .args in getD (c .reach .result) (at .a) 0 ≡ linksTo (at .t1) (at .b) (at .a))
-links c = rw (c .reach .ensures _ (own (c .before .before .before .before .before .before .before))) (reach-at _ _ _ (desks (c .before .before .before .before .before .before .before .before) .0))
+-- what reach answers for the setup
+reached : (c : tie.After-reach) → (let at = c .before .before .before .before .before .before .before .before .before .before .before .args in ReachedBy (at .t1) (at .a) (at .b) mostLinks (c .reach .result))
+reached c = c .reach .ensures _ (own (c .before .before .before .before .before .before .before))
 
 array-read-links : tie.Need-array-read-links
 array-read-links c = omega (arith, desks (c .before .before .before .before .before .before .before .before) .0)
@@ -80,7 +80,7 @@ returns-2 : tie.Need-returns-2
 returns-2 c =
     let at = c .before .before .before .before .before .before .before .before .before .before .before .before .args in
     let e = unrefused (c .before .before .before .before .before .before .before .before .before) in
-    let h : far ≤ linksTo (at .t1) (at .b) (at .a) = omega (arith, links (c .before), c .if2 .taken) in
+    let h = told-none (at .t1) (sound (c .before .before .before .before .before .before .before .before .before) .setup) (at .a) (at .b) (desks (c .before .before .before .before .before .before .before .before .before) .0) (reached (c .before)) (c .if2 .taken) in
     promised (at .t1) (at .a) (at .b) (at .room .now) (sym (routed-none (at .t1) (at .a) (at .b) (at .room .now) e h)) (sym (room-none (at .t1) (at .a) (at .b) (at .room .now) e h))
 
 slice-aggregate-write-route : tie.Need-slice-aggregate-write-route
@@ -91,15 +91,22 @@ slice-aggregate-write-route-2 c = search needs
 
 write-route-requires : tie.Need-write-route-requires
 write-route-requires c κs =
+    let at = c .before .before .before .before .before .before .before .before .before .before .before .before .before .before .before .args in
     let h = sound (c .before .before .before .before .before .before .before .before .before .before .before .before) in
+    let rec = reached (c .before .before .before .before) in
+    let same = told-near (at .t1) (h .setup) (at .a) (at .b) (desks (c .before .before .before .before .before .before .before .before .before .before .before .before) .0) rec (c .before .before .before .if2 .left) in
     record {
       setup = h .setup;
       from = desks (c .before .before .before .before .before .before .before .before .before .before .before .before) .0;
       onto = desks (c .before .before .before .before .before .before .before .before .before .before .before .before) .1;
       apart = h .apart;
-      near = omega (arith, links (c .before .before .before .before), c .before .before .before .if2 .left);
+      near = omega (arith, same, c .before .before .before .if2 .left);
       lowest = c .before .before .before .before .before .before .before .before .before .before .before .firsts .ensures;
-      reached = c .before .before .before .before .reach .ensures _ (own (c .before .before .before .before .before .before .before .before .before .before .before));
+      level = rec .level;
+      within = rec .within;
+      reached = rec .are;
+      numbered = same;
+      enough = told-enough (at .t1) (h .setup) (at .a) (at .b) (desks (c .before .before .before .before .before .before .before .before .before .before .before .before) .0) rec (c .before .before .before .if2 .left);
       spacious = h .spacious;
     }
 
@@ -122,8 +129,9 @@ returns-3 : tie.Need-returns-3
 returns-3 c =
     let at = c .before .before .before .before .before .before .before .before .before .before .before .before .before .before .before .before .before .before .args in
     let e = unrefused (c .before .before .before .before .before .before .before .before .before .before .before .before .before .before .before) in
-    let h : linksTo (at .t1) (at .b) (at .a) < far = omega (arith, links (c .before .before .before .before .before .before .before), c .before .before .before .before .before .before .if2 .left) in
-    promised (at .t1) (at .a) (at .b) (at .room .now) (rw (routed-shown (at .t1) (at .a) (at .b) (at .room .now) e h) (simp (links (c .before .before .before .before .before .before .before))))
+    let same = told-near (at .t1) (sound (c .before .before .before .before .before .before .before .before .before .before .before .before .before .before .before) .setup) (at .a) (at .b) (desks (c .before .before .before .before .before .before .before .before .before .before .before .before .before .before .before) .0) (reached (c .before .before .before .before .before .before .before)) (c .before .before .before .before .before .before .if2 .left) in
+    let h : linksTo (at .t1) (at .b) (at .a) < far = omega (arith, same, c .before .before .before .before .before .before .if2 .left) in
+    promised (at .t1) (at .a) (at .b) (at .room .now) (rw (routed-shown (at .t1) (at .a) (at .b) (at .room .now) e h) (simp same))
     (rw (room-shown (at .t1) (at .a) (at .b) (at .room .now) e h) (c .before .before .write-route .ensures))
 
 pub report-spec : {M : Type 1} → statement M

@@ -15,7 +15,7 @@ use Rattle.rules.proofs.Setups.{accepted-sizes}
 use Rattle.chains.specs.Chains.{processAt}
 use Rattle.chains.proofs.Lowest.{lowest-le}
 use Rattle.routes.specs.Writers.{startCalls, withCalls}
-use Rattle.routes.proofs.Written.{Left, Written, written-none, written-more, written-all, next-desk-lt, next-file-lt, to-long, firsts-long, links-at, some-links, first-link, start-left, route-written}
+use Rattle.routes.proofs.Written.{Left, Written, written-none, written-more, written-all, next-desk-lt, next-file-lt, to-long, firsts-long, some-links, first-link, start-left, route-written}
 use Rattle.routes.proofs.writing.write_route.Statement.{statement}
 use Rattle.routes.proofs.writing.write_route.Tie as tie
 
@@ -32,7 +32,7 @@ cast-k : tie.Need-cast-k Inv-loop μ-loop
 cast-k c = omega (arith, c .shared-slice-known3 .given (c .before .before .before .before .args .a))
 
 sub-k : tie.Need-sub-k Inv-loop μ-loop
-sub-k c = let pre = c .before .before .before .before .pre in omega (arith, links-at pre, some-links pre)
+sub-k c = let pre = c .before .before .before .before .pre in omega (arith, pre .numbered, some-links pre)
 
 desk-after-requires : tie.Need-desk-after-requires Inv-loop μ-loop
 desk-after-requires c κs = let pre = c .before .before .before .before .pre in (pre .lowest, to-long pre, pre .from)
