@@ -1,0 +1,9 @@
+-- The laws of the line rules.
+pub mod Cases
+pub mod Decimals
+pub mod Entries
+pub mod Faults
+pub mod Lines
+pub mod Readings
+pub mod Rights
+pub mod Shapes

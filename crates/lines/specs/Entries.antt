@@ -1,0 +1,44 @@
+-- What each entry that reads a text answers, refusals too, as one function of what it is handed.
+use Prim.Native.Nat.{ℕ, _*_}
+use mathlib.Core.List.{List, [], _∷_}
+use lib.Dec.{ltb}
+use lib.ListN.{length}
+use Rattle.rules.specs.Setups.{setupFrom, blankSetup}
+use Rattle.rules.specs.Calls.{Numbers}
+use Rattle.rules.specs.Refusals.{Refusal, _gives_, firstOf}
+use Rattle.rules.specs.Entries.{unless}
+use Rattle.lists.specs.Lists.{mostCalls, callWidth}
+use Rattle.lines.specs.Readings.{Reached, sound, refused, alone, withCalls, readText, bytesRead}
+use Rattle.lines.specs.declared.Reading.the-variants.{Read, Refused}
+use Rattle.lines.specs.declared.GivenText.{GivenText}
+
+-- "A refusal hands back no new setup": the blank one stands beside it
+abbrev pub givenBy : Reached → GivenText
+givenBy (sound s) = record { reading = Read (length (s .calls)); setup = setupFrom (bytesRead s) }
+givenBy (refused r at) = record { reading = Refused r at; setup = blankSetup }
+
+-- the calls for the lent run; none where the text is refused
+abbrev pub callsBy : Reached → List Numbers
+callsBy (sound s) = s .calls
+callsBy (refused r at) = []
+
+-- "room for calls read below 4,096"
+abbrev pub refusal11 : ℕ → Refusal
+refusal11 room = ltb room (mostCalls * callWidth) gives 11
+
+-- a setup text read alone
+unfoldable pub readAlone : List ℕ → GivenText
+readAlone text = givenBy (readText alone text)
+
+-- "Text with calls: 11, then its lines"
+unfoldable pub reachedWith : List ℕ → ℕ → Reached
+reachedWith text room =
+    let r = firstOf (refusal11 room ∷ []) in
+    unless r (readText withCalls text) (refused r 0)
+
+unfoldable pub readWithCalls : List ℕ → ℕ → GivenText
+readWithCalls text room = givenBy (reachedWith text room)
+
+-- "The calls fill the front of a lent run"
+unfoldable pub callsRead : List ℕ → ℕ → List Numbers
+callsRead text room = callsBy (reachedWith text room)
