@@ -1,6 +1,6 @@
 -- The program case of 01 and small texts, read by computation.
 -- Assumes nothing.
-use Prim.Native.Nat.{ℕ}
+use Prim.Native.Nat.{ℕ, _-_, _*_}
 use mathlib.Core.Path.{_≡_, refl}
 use mathlib.Core.Bool.{Bool, true}
 use mathlib.Core.List.{List, [], _∷_, _++_}
@@ -8,6 +8,7 @@ use Rattle.rules.specs.Sizes.{table}
 use Rattle.rules.specs.Setups.{withinSizes, setupBytes, givenRight, setupFrom}
 use Rattle.rules.specs.Calls.{Numbers, numbers}
 use Rattle.rules.specs.declared.Setup.{Setup}
+use Rattle.lists.specs.Lists.{mostCalls, callWidth}
 use Rattle.lines.specs.Bytes.{same}
 use Rattle.lines.specs.Lines.{pieces, linesFrom, linesOf, fieldsOf}
 use Rattle.lines.specs.Decimals.{isNumber, numberOf}
@@ -15,6 +16,10 @@ use Rattle.lines.specs.Shapes.{readAs, headerLine, accessLine, processLi
 use Rattle.lines.specs.Readings.{refused, alone, withCalls, atStart, judge, judgeAll, readText, rightIn, bytesRead}
 use Rattle.lines.specs.Entries.{readAlone, reachedWith, readWithCalls, callsRead}
 use Rattle.lines.specs.declared.Reading.the-variants.{Read}
+
+-- room for every call that a text can have
+abbrev enough : ℕ
+enough = mostCalls * callWidth
 
 -- setup Q as the program case writes it: store 1 3 2 3 2, access 0 0 W, access 1 0 R, access 1 1 W, access 2 1 R, process 0 0,
 -- process 1 1, process 2 2, file 0 0, file 1 1; each line's fields parted by tabs
@@ -69,16 +74,16 @@ unfolding computes
 q-alone = refl
 
 -- the program case is read to setup Q and its nine calls
-pub q-with-calls : readWithCalls (setupText ++ callText) 4096 ≡ record { reading = Read 9; setup = setupQ }
+pub q-with-calls : readWithCalls (setupText ++ callText) enough ≡ record { reading = Read 9; setup = setupQ }
 unfolding computes
 q-with-calls = refl
 
-pub q-calls : callsRead (setupText ++ callText) 4096 ≡ nineCalls
+pub q-calls : callsRead (setupText ++ callText) enough ≡ nineCalls
 unfolding computes
 q-calls = refl
 
 -- "room for calls read below 4,096" comes before any line
-pub q-no-room : reachedWith (setupText ++ callText) 4095 ≡ refused 11 0
+pub q-no-room : reachedWith (setupText ++ callText) (enough - 1) ≡ refused 11 0
 unfolding computes
 q-no-room = refl
 
@@ -186,14 +191,14 @@ missing-file = refl
 abbrev wordsText : List ℕ
 wordsText = 115 ∷ 116 ∷ 111 ∷ 114 ∷ 101 ∷ 9 ∷ 49 ∷ 9 ∷ 49 ∷ 9 ∷ 49 ∷ 9 ∷ 49 ∷ 9 ∷ 49 ∷ 10 ∷ 97 ∷ 99 ∷ 99 ∷ 101 ∷ 115 ∷ 115 ∷ 9 ∷ 48 ∷ 9 ∷ 48 ∷ 9 ∷ 82 ∷ 87 ∷ 10 ∷ 112 ∷ 114 ∷ 111 ∷ 99 ∷ 101 ∷ 115 ∷ 115 ∷ 9 ∷ 48 ∷ 9 ∷ 48 ∷ 10 ∷ 102 ∷ 105 ∷ 108 ∷ 101 ∷ 9 ∷ 48 ∷ 9 ∷ 48 ∷ 10 ∷ 99 ∷ 97 ∷ 108 ∷ 108 ∷ 115 ∷ 9 ∷ 49 ∷ 10 ∷ 114 ∷ 101 ∷ 97 ∷ 100 ∷ 9 ∷ 49 ∷ 9 ∷ 50 ∷ 10 ∷ 119 ∷ 114 ∷ 105 ∷ 116 ∷ 101 ∷ 9 ∷ 49 ∷ 9 ∷ 50 ∷ 9 ∷ 51 ∷ 10 ∷ 108 ∷ 111 ∷ 99 ∷ 107 ∷ 9 ∷ 49 ∷ 9 ∷ 50 ∷ 10 ∷ 117 ∷ 110 ∷ 108 ∷ 111 ∷ 99 ∷ 107 ∷ 9 ∷ 49 ∷ 9 ∷ 50 ∷ 10 ∷ 111 ∷ 112 ∷ 101 ∷ 110 ∷ 9 ∷ 49 ∷ 9 ∷ 50 ∷ 10 ∷ 99 ∷ 108 ∷ 111 ∷ 115 ∷ 101 ∷ 9 ∷ 49 ∷ 9 ∷ 50 ∷ 10 ∷ 116 ∷ 101 ∷ 115 ∷ 116 ∷ 108 ∷ 111 ∷ 99 ∷ 107 ∷ 9 ∷ 49 ∷ 9 ∷ 50 ∷ 10 ∷ 99 ∷ 111 ∷ 112 ∷ 121 ∷ 9 ∷ 52 ∷ 50 ∷ 57 ∷ 52 ∷ 57 ∷ 54 ∷ 55 ∷ 50 ∷ 57 ∷ 53 ∷ 9 ∷ 55 ∷ 9 ∷ 55 ∷ 10 ∷ []
 
-pub every-word : callsRead wordsText 4096
+pub every-word : callsRead wordsText enough
     ≡ numbers 1 1 2 0 ∷ numbers 2 1 2 3 ∷ numbers 3 1 2 0 ∷ numbers 4 1 2 0 ∷ numbers 5 1 2 0 ∷ numbers 6 1 2 0 ∷ numbers 7 1 2 0
     ∷ numbers 8 4294967295 7 7 ∷ []
 unfolding computes
 every-word = refl
 
 -- `RW` is both rights
-pub both-rights : readWithCalls wordsText 4096 ≡ record { reading = Read 8; setup = setupFrom (setupBytes 1 1 1 1 (3 ∷ []) (0 ∷ []) (0 ∷ [])) }
+pub both-rights : readWithCalls wordsText enough ≡ record { reading = Read 8; setup = setupFrom (setupBytes 1 1 1 1 (3 ∷ []) (0 ∷ []) (0 ∷ [])) }
 unfolding computes
 both-rights = refl
 

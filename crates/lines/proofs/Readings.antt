@@ -9,6 +9,7 @@ use native.Mathlib.Omega.{arith}
 use borrow.Author.Tests.{ltb-true, ltb-false, leb-false, not-false}
 use lib.Dec.{ltb, eqb}
 use lib.ListN.{length, getD, length-append}
+use Rattle.rules.specs.Calls.{Numbers}
 use Rattle.rules.specs.Setups.{rightBoth, accepted, setupFrom}
 use Rattle.rules.specs.Refusals.{Refusal, firstOf}
 use Rattle.rules.specs.Entries.{unless}
@@ -164,32 +165,29 @@ held-file s at fields (n, below, h) =
     (λ t. (n + 1, omega (arith, h .class-length, ltb-true (length (s .class ++ (f .class ∷ []))) (s .counts .files) t), inside (n + 1) refl))
     (λ g. inside (s .counts .files) (omega (arith, h .class-length, ltb-false (length (s .class ++ (f .class ∷ []))) (s .counts .files) g))))
 
+-- what is due, and which calls were read, play no part in it
+carried : (s : SoFar) (processes files : ℕ) (due : Due) (calls : List Numbers) → Inside s processes files
+    → Inside (record { due = due; counts = s .counts; access = s .access; desk = s .desk; class = s .class; calls = calls }) processes files
+carried s processes files due calls h =
+    record {
+      sizes = h .sizes;
+      right-lt = h .right-lt;
+      desk-lt = h .desk-lt;
+      class-lt = h .class-lt;
+      desk-length = h .desk-length;
+      class-length = h .class-length;
+    }
+
 held-calls : (t : Text) (s : SoFar) (at : ℕ) (fields : List (List ℕ)) → HeldAt callsDue s → Kept Held (judgeFurther t s at fields)
 held-calls alone s at fields h = tt
 held-calls withCalls s at fields h =
     judged-keeps Held at (callsLine fields) (λ ns. []) (λ ns. afterCalls s)
-    (λ ns e z.
-    record {
-      sizes = h .sizes;
-      right-lt = h .right-lt;
-      desk-lt = h .desk-lt;
-      class-lt = h .class-lt;
-      desk-length = h .desk-length;
-      class-length = h .class-length;
-    })
+    (λ ns e z. carried s (s .counts .processes) (s .counts .files) callDue (s .calls) h)
 
 held-call : (s : SoFar) (at : ℕ) (fields : List (List ℕ)) → HeldAt callDue s → Kept Held (judgeCall s at fields)
 held-call s at fields h =
     judged-keeps Held at (callLine fields) (λ n. callOrder s) (afterCall s)
-    (λ n e z.
-    record {
-      sizes = h .sizes;
-      right-lt = h .right-lt;
-      desk-lt = h .desk-lt;
-      class-lt = h .class-lt;
-      desk-length = h .desk-length;
-      class-length = h .class-length;
-    })
+    (λ n e z. carried s (s .counts .processes) (s .counts .files) callDue (s .calls ++ (n ∷ [])) h)
 
 -- where an access line may stand, process 0 is due
 held-access-process : (s : SoFar) → HeldAt accessDue s → HeldAt processDue s
