@@ -10,13 +10,7 @@ use lib.Dec.{eqb}
 use lib.ListN.{length, length-append}
 use Rattle.rules.proofs.Lists.{by-test}
 use Rattle.lines.specs.Bytes.{lineFeed, tab}
-use Rattle.lines.specs.Lines.{onto, pieces, Line, line, lastLine, linesFrom, linesOf, fieldsOf}
-
--- pieces with the mark between each and the next
-unfoldable pub joined : ℕ → List (List ℕ) → List ℕ
-joined mark [] = []
-joined mark (piece ∷ []) = piece
-joined mark (piece ∷ (next ∷ more)) = piece ++ (mark ∷ joined mark (next ∷ more))
+use Rattle.lines.specs.Lines.{onto, pieces, joined, Line, line, lastLine, linesFrom, linesOf, fieldsOf}
 
 -- the mark is none of the bytes
 abbrev pub without : ℕ → List ℕ → Bool

@@ -1,14 +1,15 @@
 -- What each entry that reads a text answers, refusals too, as one function of what it is handed.
 use Prim.Native.Nat.{ℕ, _*_}
-use mathlib.Core.List.{List, [], _∷_}
+use mathlib.Core.List.{List, [], _∷_, _++_}
 use lib.Dec.{ltb}
-use lib.ListN.{length}
+use lib.ListN.{length, drop}
 use Rattle.rules.specs.Setups.{setupFrom, blankSetup}
 use Rattle.rules.specs.Calls.{Numbers}
 use Rattle.rules.specs.Refusals.{Refusal, _gives_, firstOf}
 use Rattle.rules.specs.Entries.{unless}
-use Rattle.lists.specs.Lists.{mostCalls, callWidth}
+use Rattle.lists.specs.Lists.{mostCalls, callWidth, inQuads}
 use Rattle.lines.specs.Readings.{Reached, sound, refused, alone, withCalls, readText, bytesRead}
+use Rattle.lines.specs.declared.Reading.{Reading}
 use Rattle.lines.specs.declared.Reading.the-variants.{Read, Refused}
 use Rattle.lines.specs.declared.GivenText.{GivenText}
 
@@ -39,6 +40,17 @@ reachedWith text room =
 unfoldable pub readWithCalls : List ℕ → ℕ → GivenText
 readWithCalls text room = givenBy (reachedWith text room)
 
--- "The calls fill the front of a lent run"
+-- the calls that are read; none where the text is refused
 unfoldable pub callsRead : List ℕ → ℕ → List Numbers
 callsRead text room = callsBy (reachedWith text room)
+
+-- "The calls fill the front of a lent run"; what lies past them keeps its values, and all of it where the text is refused
+unfoldable pub roomRead : List ℕ → List ℕ → List ℕ
+roomRead text room =
+    let calls = callsRead text (length room) in
+    inQuads calls ++ drop (length calls * callWidth) room
+
+-- the answer to a text as numbers: 0 and the number of calls; or 01's 4, the refusal and the offset
+abbrev pub textNumbersOf : Reading → ℕ × ℕ × ℕ
+textNumbersOf (Read calls) = (0, calls, 0)
+textNumbersOf (Refused refusal at) = (4, refusal, at)

@@ -1,7 +1,7 @@
 -- 01, "Line rules": the lines of a text and the fields of a line.
 use Prim.Native.Nat.{ℕ, _+_}
 use mathlib.Core.Bool.{Bool, true, false, cond}
-use mathlib.Core.List.{List, [], _∷_}
+use mathlib.Core.List.{List, [], _∷_, _++_}
 use lib.Dec.{eqb}
 use lib.ListN.{length}
 use Rattle.lines.specs.Bytes.{lineFeed, tab}
@@ -15,6 +15,12 @@ onto b (piece ∷ more) = (b ∷ piece) ∷ more
 unfoldable pub pieces : ℕ → List ℕ → List (List ℕ)
 pieces mark [] = [] ∷ []
 pieces mark (b ∷ rest) = cond (eqb b mark) ([] ∷ pieces mark rest) (onto b (pieces mark rest))
+
+-- pieces with the mark between each and the next
+unfoldable pub joined : ℕ → List (List ℕ) → List ℕ
+joined mark [] = []
+joined mark (piece ∷ []) = piece
+joined mark (piece ∷ (next ∷ more)) = piece ++ (mark ∷ joined mark (next ∷ more))
 
 -- a line: the offset of its first byte, its bytes without the LF, and whether its LF is there
 pub record Line : Type 0 where

@@ -40,6 +40,11 @@ numbersAt list i =
 unfoldable pub callsOf : List ℕ → List Numbers
 callsOf list = table (callsIn list) (numbersAt list)
 
+-- calls as numbers, "four a call"
+unfoldable pub inQuads : List Numbers → List ℕ
+inQuads [] = []
+inQuads (n ∷ rest) = n .operation ∷ n .process ∷ n .file ∷ n .extra ∷ inQuads rest
+
 -- where a run of calls ends, and what it answers: every call in order, refused ones too
 abbrev pub endOf : Setup → Store → List Numbers → Store
 endOf s = after (machine s)

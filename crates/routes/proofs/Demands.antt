@@ -13,7 +13,7 @@ use Rattle.rules.specs.Sizes.{mostDesks}
 use Rattle.rules.specs.declared.Setup.{Setup}
 use Rattle.rules.proofs.Lists.{by-test}
 use Rattle.rules.proofs.Setups.{accepted-sizes}
-use Rattle.lists.specs.Lists.{callWidth, callsOf}
+use Rattle.lists.specs.Lists.{callWidth, callsOf, inQuads}
 use Rattle.chains.specs.Chains.{HasRoute, far, linksTo, chainOf}
 use Rattle.chains.proofs.Chains.{some-link}
 use Rattle.chains.proofs.Walk.{chainOf-length}
@@ -22,10 +22,10 @@ use Rattle.demand.specs.Routes.{routeCalls, callsFor}
 use Rattle.demand.specs.Heard.{Unheard}
 use Rattle.demand.proofs.Routes.{routeCalls-length}
 use Rattle.demand.proofs.Exactly.{report-shows, exactly}
-use Rattle.routes.specs.Reports.{routeRefusal, routed, inQuads, roomAfter}
+use Rattle.routes.specs.Reports.{routeRefusal, routed, roomAfter}
 use Rattle.routes.specs.Demand3.{ShownBy, Demand3}
 use Rattle.routes.specs.declared.RouteAnswer.the-variants.{NoRoute}
-use Rattle.routes.proofs.Quads.{inQuads-length, calls-of-quads}
+use Rattle.lists.proofs.Quads.{inQuads-length, calls-of-quads}
 use Rattle.routes.proofs.Reports.{Sound, route-sound, routed-refused, room-refused, routed-none, routed-shown, room-shown}
 
 -- what follows where no refusal is given and where one is follows

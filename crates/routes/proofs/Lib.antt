@@ -1,5 +1,4 @@
--- The laws of the route report: of calls as numbers, of its refusals and answers, of demand 3, and of a list as far as it is written.
-pub mod Quads
+-- The laws of the route report: of its refusals and answers, of demand 3, and of a list as far as it is written.
 pub mod Reports
 pub mod Demands
 pub mod Written

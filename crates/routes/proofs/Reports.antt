@@ -13,10 +13,10 @@ use Rattle.rules.specs.declared.Setup.{Setup}
 use Rattle.rules.proofs.Lists.{neither}
 use Rattle.rules.proofs.Refusals.{unmet-iff}
 use Rattle.rules.proofs.Told.{unless-refused}
-use Rattle.lists.specs.Lists.{callWidth}
+use Rattle.lists.specs.Lists.{callWidth, inQuads}
 use Rattle.chains.specs.Chains.{mostLinks, far, linksTo, chainOf}
 use Rattle.demand.specs.Routes.{routeCalls, callsFor}
-use Rattle.routes.specs.Reports.{mostRouteNumbers, routeOrder, routeRefusal, routed, inQuads, roomAfter}
+use Rattle.routes.specs.Reports.{mostRouteNumbers, routeOrder, routeRefusal, routed, roomAfter}
 use Rattle.routes.specs.declared.RouteAnswer.the-variants.{NoRoute, Route, Refused}
 
 -- "61 calls or 244 numbers suffice"

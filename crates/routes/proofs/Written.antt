@@ -16,7 +16,8 @@ use Rattle.rules.specs.declared.Setup.{Setup}
 use Rattle.rules.proofs.Lists.{getElem?-getD}
 use Rattle.rules.proofs.Sizes.{length-table}
 use Rattle.rules.proofs.Setups.{accepted-sizes}
-use Rattle.lists.specs.Lists.{callWidth}
+use Rattle.lists.specs.Lists.{callWidth, inQuads}
+use Rattle.lists.specs.Writers.{withCalls}
 use Rattle.chains.specs.Chains.{processAt, fileFor, isChain, Taken, mostLinks, far, reach, linksTo, nextDesk, walk, chainOf}
 use Rattle.chains.proofs.Chains.{chain-none, chain-first, some-link, link-end}
 use Rattle.chains.proofs.Acts.{link-acts}
@@ -26,9 +27,8 @@ use Rattle.chains.proofs.Settled.{reach-settled, walk-settled}
 use Rattle.reaching.specs.Filed.{ReachedBy}
 use Rattle.demand.specs.Routes.{onward, routeCalls, callsFor}
 use Rattle.demand.proofs.Routes.{routeCalls-length}
-use Rattle.routes.specs.Reports.{inQuads}
-use Rattle.routes.specs.Writers.{startCalls, middleCalls, endCalls, withCalls, Ready}
-use Rattle.routes.proofs.Quads.{calls-in-front, no-calls, withCalls-length, calls-more}
+use Rattle.routes.specs.Writers.{startCalls, middleCalls, endCalls, Ready}
+use Rattle.lists.proofs.Quads.{calls-in-front, no-calls, withCalls-length, calls-more}
 
 -- the table of links has an entry for each desk that a setup may have
 reach-long : (s : Setup) (b n : ℕ) → length (reach s b n) ≡ mostDesks

@@ -4,11 +4,10 @@ use mathlib.Core.Bool.{_||_, cond}
 use mathlib.Core.List.{List, [], _∷_, _++_}
 use lib.Dec.{ltb, leb, eqb}
 use lib.ListN.{length, drop}
-use Rattle.rules.specs.Calls.{Numbers}
 use Rattle.rules.specs.Refusals.{Refusal, _gives_, firstOf, refusal15}
 use Rattle.rules.specs.Entries.{unless}
 use Rattle.rules.specs.declared.Setup.{Setup}
-use Rattle.lists.specs.Lists.{callWidth}
+use Rattle.lists.specs.Lists.{callWidth, inQuads}
 use Rattle.chains.specs.Chains.{mostLinks, far, linksTo, chainOf}
 use Rattle.demand.specs.Routes.{routeCalls, callsFor}
 use Rattle.routes.specs.declared.RouteAnswer.{RouteAnswer}
@@ -43,11 +42,6 @@ routed s a b room =
     let r = routeRefusal s a b room in
     let k = linksTo s b a in
     unless r (cond (ltb k far) (Route (callsFor k)) NoRoute) (Refused r)
-
--- calls as numbers, "four a call"
-unfoldable pub inQuads : List Numbers → List ℕ
-inQuads [] = []
-inQuads (n ∷ rest) = n .operation ∷ n .process ∷ n .file ∷ n .extra ∷ inQuads rest
 
 -- the list fills the front of the room, and what lies past it keeps its values; "No route" and a refusal write nothing
 unfoldable pub roomAfter : Setup → ℕ → ℕ → List ℕ → List ℕ

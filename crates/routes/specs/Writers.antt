@@ -1,4 +1,4 @@
--- For the writer of the list, which is no entry: what it asks, and calls put into a lent room.
+-- For the writer of the list, which is no entry: the calls of each desk, and what it asks.
 use Prim.Native.Nat.{ℕ, _+_, _*_, _<_, _≤_}
 use mathlib.Core.Path.{_≡_}
 use mathlib.Core.Bool.{true}
@@ -12,7 +12,7 @@ use Rattle.rules.specs.declared.Setup.{Setup}
 use Rattle.lists.specs.Lists.{callWidth}
 use Rattle.chains.specs.Chains.{processAt, mostLinks, far, reach, linksTo}
 use Rattle.demand.specs.Routes.{readCall, writeCall, lockCall, unlockCall, openCall, copyCall}
-use Rattle.routes.specs.Reports.{mostRouteNumbers, inQuads}
+use Rattle.routes.specs.Reports.{mostRouteNumbers}
 
 -- "A's LOCK, WRITE of 1, UNLOCK", "each middle desk's OPEN of the file before it, LOCK of the next, COPY, UNLOCK", "B's OPEN and READ"
 abbrev pub startCalls : ℕ → ℕ → List Numbers
@@ -23,10 +23,6 @@ middleCalls p f g = openCall p f ∷ lockCall p g ∷ copyCall p f g ∷ unlockC
 
 abbrev pub endCalls : ℕ → ℕ → List Numbers
 endCalls p f = openCall p f ∷ readCall p f ∷ []
-
--- the room with calls from place i on, and all else as it was
-unfoldable pub withCalls : List ℕ → ℕ → List Numbers → List ℕ
-withCalls room i calls = take (i * callWidth) room ++ (inQuads calls ++ drop ((i + length calls) * callWidth) room)
 
 -- a route runs from a to b: the lowest processes, the links from each desk to b as far as a's own, and room for the list are at hand
 pub record Ready (s : Setup) (firsts to : List ℕ) (a b : ℕ) (room : List ℕ) : Type 0 where

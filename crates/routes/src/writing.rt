@@ -1,5 +1,5 @@
 // Writing the list that shows a route into a lent room.
-use lists::CALL_WIDTH;
+use lists::writing::put_call;
 use reaching::acts::lowest_process;
 use reaching::acts::serving_file;
 use reaching::leading::desk_after;
@@ -8,12 +8,11 @@ ghost use mathlib.Core.Path.{_≡_};
 ghost use mathlib.Core.List.{[], _∷_, _++_};
 ghost use Prim.Native.Nat.{_+_, _*_, _≤_};
 ghost use lib.ListN.{length, drop};
-ghost use Rattle.rules.specs.Calls.{numbers};
-ghost use Rattle.lists.specs.Lists.{callWidth};
+ghost use Rattle.lists.specs.Lists.{callWidth, inQuads};
+ghost use Rattle.lists.specs.Writers.{withCalls};
 ghost use Rattle.chains.specs.Chains.{linksTo, chainOf};
 ghost use Rattle.demand.specs.Routes.{routeCalls, callsFor};
-ghost use Rattle.routes.specs.Reports.{inQuads};
-ghost use Rattle.routes.specs.Writers.{startCalls, middleCalls, endCalls, withCalls, Ready};
+ghost use Rattle.routes.specs.Writers.{startCalls, middleCalls, endCalls, Ready};
 
 // The codes of the calls in a list that shows a route.
 const READ: u32 = 1;
@@ -37,18 +36,6 @@ const NONE: u32 = 0;
 const START_CALLS: usize = 3;
 
 const MIDDLE_CALLS: usize = 4;
-
-// Call i of the list, as four numbers at its place.
-fn put_call(room: &mut [u32], i: usize, op: u32, p: u32, f: u32, x: u32)
-    requires { ⌜ i * callWidth + callWidth ≤ length (now room) ⌝ }
-    ensures { λ _. ⌜ now (room .exit) ≡ withCalls (now (room .entry)) i (numbers op p f x ∷ []) ⌝ }
-{
-    let at = i * CALL_WIDTH;
-    room[at] = op;
-    room[at + 1] = p;
-    room[at + 2] = f;
-    room[at + 3] = x;
-}
 
 // Desk A's calls: its process p writes into the first link's file.
 fn put_start(room: &mut [u32], p: u32, first: u32)

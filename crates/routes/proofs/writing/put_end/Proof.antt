@@ -1,7 +1,7 @@
 -- `routes::writing::put_end` meets its contract: the calls put one by one are put together.
 -- Assumes nothing.
 use borrow.Author.Needs.{needs}
-use Rattle.routes.proofs.Quads.{calls-two}
+use Rattle.lists.proofs.Quads.{calls-two}
 use Rattle.routes.proofs.writing.put_end.Statement.{statement}
 use Rattle.routes.proofs.writing.put_end.Tie as tie
 

@@ -1,7 +1,7 @@
 -- `routes::writing::put_middle` meets its contract: the calls put one by one are put together.
 -- Assumes nothing.
 use borrow.Author.Needs.{needs}
-use Rattle.routes.proofs.Quads.{calls-four}
+use Rattle.lists.proofs.Quads.{calls-four}
 use Rattle.routes.proofs.writing.put_middle.Statement.{statement}
 use Rattle.routes.proofs.writing.put_middle.Tie as tie
 

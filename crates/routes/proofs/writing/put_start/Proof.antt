@@ -1,7 +1,7 @@
 -- `routes::writing::put_start` meets its contract: the calls put one by one are put together.
 -- Assumes nothing.
 use borrow.Author.Needs.{needs}
-use Rattle.routes.proofs.Quads.{calls-three}
+use Rattle.lists.proofs.Quads.{calls-three}
 use Rattle.routes.proofs.writing.put_start.Statement.{statement}
 use Rattle.routes.proofs.writing.put_start.Tie as tie
 

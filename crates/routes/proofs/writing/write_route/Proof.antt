@@ -14,7 +14,8 @@ use Rattle.rules.specs.declared.Setup.{Setup}
 use Rattle.rules.proofs.Setups.{accepted-sizes}
 use Rattle.chains.specs.Chains.{processAt}
 use Rattle.chains.proofs.Lowest.{lowest-le}
-use Rattle.routes.specs.Writers.{startCalls, withCalls}
+use Rattle.lists.specs.Writers.{withCalls}
+use Rattle.routes.specs.Writers.{startCalls}
 use Rattle.routes.proofs.Written.{Left, Written, written-none, written-more, written-all, next-desk-lt, next-file-lt, to-long, firsts-long, some-links, first-link, start-left, route-written}
 use Rattle.routes.proofs.writing.write_route.Statement.{statement}
 use Rattle.routes.proofs.writing.write_route.Tie as tie

@@ -10,9 +10,8 @@ use lib.ListN.{length, getD, set, take, drop, length-append, length-take, length
 use lib.Seq.{take-at, drop-append-add, drop-drop, sets-eq}
 use Rattle.rules.specs.Calls.{Numbers, numbers}
 use Rattle.rules.proofs.Sizes.{table-is}
-use Rattle.lists.specs.Lists.{callWidth, callsIn, numbersAt, callsOf}
-use Rattle.routes.specs.Reports.{inQuads}
-use Rattle.routes.specs.Writers.{withCalls}
+use Rattle.lists.specs.Lists.{callWidth, callsIn, numbersAt, callsOf, inQuads}
+use Rattle.lists.specs.Writers.{withCalls}
 
 pub inQuads-append : (xs ys : List Numbers) → inQuads (xs ++ ys) ≡ inQuads xs ++ inQuads ys
 unfolding inQuads

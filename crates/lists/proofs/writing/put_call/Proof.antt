@@ -1,11 +1,11 @@
--- `routes::writing::put_call` meets its contract; the four places lie inside the lent room.
+-- `lists::writing::put_call` meets its contract; the four places lie inside the lent room.
 -- Assumes nothing.
 use borrow.Author.Needs.{needs}
 use native.Mathlib.Omega.{arith}
 use lib.ListN.{length-set}
-use Rattle.routes.proofs.Quads.{quad-put}
-use Rattle.routes.proofs.writing.put_call.Statement.{statement}
-use Rattle.routes.proofs.writing.put_call.Tie as tie
+use Rattle.lists.proofs.Quads.{quad-put}
+use Rattle.lists.proofs.writing.put_call.Statement.{statement}
+use Rattle.lists.proofs.writing.put_call.Tie as tie
 
 mul-at : tie.Need-mul-at
 mul-at c = search needs
