@@ -1,22 +1,9 @@
 -- 01, "The route report": the list of calls that shows a route.
 use Prim.Native.Nat.{ℕ, _+_, _*_}
 use mathlib.Core.List.{List, [], _∷_}
-use Rattle.rules.specs.Calls.{Numbers, numbers, codeOfWrite, codeOfCopy}
+use Rattle.rules.specs.Calls.{Numbers, numbers, codeOfRead, codeOfWrite, codeOfLock, codeOfUnlock, codeOfOpen, codeOfCopy}
 use Rattle.rules.specs.declared.Setup.{Setup}
 use Rattle.chains.specs.Chains.{processAt, fileFor}
-
--- the column "Code", for the calls of the list
-abbrev pub codeOfRead : ℕ
-codeOfRead = 1
-
-abbrev pub codeOfLock : ℕ
-codeOfLock = 3
-
-abbrev pub codeOfUnlock : ℕ
-codeOfUnlock = 4
-
-abbrev pub codeOfOpen : ℕ
-codeOfOpen = 5
 
 -- the calls of the list as four numbers
 abbrev pub readCall : ℕ → ℕ → Numbers

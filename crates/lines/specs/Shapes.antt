@@ -5,7 +5,7 @@ use mathlib.Core.List.{List, [], _∷_}
 use mathlib.Core.Option.{Option, some, none}
 use lib.ListN.{getD}
 use Rattle.rules.specs.Setups.{rightR, rightW, rightBoth}
-use Rattle.rules.specs.Calls.{Numbers, numbers, codeOfWrite, codeOfCopy}
+use Rattle.rules.specs.Calls.{Numbers, numbers, codeOfRead, codeOfWrite, codeOfLock, codeOfUnlock, codeOfOpen, codeOfClose, codeOfTestlock, codeOfCopy}
 use Rattle.lines.specs.Bytes.{one, wordStore, wordAccess, wordProcess, wordFile, wordCalls, wordR, wordW, wordRW, wordRead, wordWrite, wordLock, wordUnlock, wordOpen, wordClose, wordTestlock, wordCopy, same}
 use Rattle.lines.specs.Decimals.{numberOf}
 
@@ -118,7 +118,7 @@ callsLine fields = readAs callsShape fields
 -- "each a word .., p, f, and for `write` and `copy` x"; each word has its call's code
 abbrev pub plainWords : List Named
 plainWords =
-    (wordRead, 1) ∷ (wordLock, 3) ∷ (wordUnlock, 4) ∷ (wordOpen, 5) ∷ (wordClose, 6) ∷ (wordTestlock, 7) ∷ []
+    (wordRead, codeOfRead) ∷ (wordLock, codeOfLock) ∷ (wordUnlock, codeOfUnlock) ∷ (wordOpen, codeOfOpen) ∷ (wordClose, codeOfClose) ∷ (wordTestlock, codeOfTestlock) ∷ []
 
 abbrev pub extraWords : List Named
 extraWords = (wordWrite, codeOfWrite) ∷ (wordCopy, codeOfCopy) ∷ []

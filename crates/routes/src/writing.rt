@@ -3,6 +3,12 @@ use lists::writing::put_call;
 use reaching::acts::lowest_process;
 use reaching::acts::serving_file;
 use reaching::leading::desk_after;
+use rules::CODE_OF_COPY;
+use rules::CODE_OF_LOCK;
+use rules::CODE_OF_OPEN;
+use rules::CODE_OF_READ;
+use rules::CODE_OF_UNLOCK;
+use rules::CODE_OF_WRITE;
 use rules::Setup;
 ghost use mathlib.Core.Path.{_≡_};
 ghost use mathlib.Core.List.{[], _∷_, _++_};
@@ -13,19 +19,6 @@ ghost use Rattle.lists.specs.Writers.{withCalls};
 ghost use Rattle.chains.specs.Chains.{linksTo, chainOf};
 ghost use Rattle.demand.specs.Routes.{routeCalls, callsFor};
 ghost use Rattle.routes.specs.Writers.{startCalls, middleCalls, endCalls, Ready};
-
-// The codes of the calls in a list that shows a route.
-const READ: u32 = 1;
-
-const WRITE: u32 = 2;
-
-const LOCK: u32 = 3;
-
-const UNLOCK: u32 = 4;
-
-const OPEN: u32 = 5;
-
-const COPY: u32 = 8;
 
 // The figure that desk A writes, and the extra number of a call that takes none.
 const SHOWN: u32 = 1;
@@ -42,9 +35,9 @@ fn put_start(room: &mut [u32], p: u32, first: u32)
     requires { ⌜ length (startCalls p first) * callWidth ≤ length (now room) ⌝ }
     ensures { λ _. ⌜ now (room .exit) ≡ withCalls (now (room .entry)) 0 (startCalls p first) ⌝ }
 {
-    put_call(room, 0, LOCK, p, first, NONE);
-    put_call(room, 1, WRITE, p, first, SHOWN);
-    put_call(room, 2, UNLOCK, p, first, NONE);
+    put_call(room, 0, CODE_OF_LOCK, p, first, NONE);
+    put_call(room, 1, CODE_OF_WRITE, p, first, SHOWN);
+    put_call(room, 2, CODE_OF_UNLOCK, p, first, NONE);
 }
 
 // A middle desk's calls from call i on: its process p copies the file f before it into the next, g.
@@ -52,10 +45,10 @@ fn put_middle(room: &mut [u32], i: usize, p: u32, f: u32, g: u32)
     requires { ⌜ (i + length (middleCalls p f g)) * callWidth ≤ length (now room) ⌝ }
     ensures { λ _. ⌜ now (room .exit) ≡ withCalls (now (room .entry)) i (middleCalls p f g) ⌝ }
 {
-    put_call(room, i, OPEN, p, f, NONE);
-    put_call(room, i + 1, LOCK, p, g, NONE);
-    put_call(room, i + 2, COPY, p, f, g);
-    put_call(room, i + 3, UNLOCK, p, g, NONE);
+    put_call(room, i, CODE_OF_OPEN, p, f, NONE);
+    put_call(room, i + 1, CODE_OF_LOCK, p, g, NONE);
+    put_call(room, i + 2, CODE_OF_COPY, p, f, g);
+    put_call(room, i + 3, CODE_OF_UNLOCK, p, g, NONE);
 }
 
 // Desk B's calls from call i on: its process p reads the last link's file.
@@ -63,8 +56,8 @@ fn put_end(room: &mut [u32], i: usize, p: u32, last: u32)
     requires { ⌜ (i + length (endCalls p last)) * callWidth ≤ length (now room) ⌝ }
     ensures { λ _. ⌜ now (room .exit) ≡ withCalls (now (room .entry)) i (endCalls p last) ⌝ }
 {
-    put_call(room, i, OPEN, p, last, NONE);
-    put_call(room, i + 1, READ, p, last, NONE);
+    put_call(room, i, CODE_OF_OPEN, p, last, NONE);
+    put_call(room, i + 1, CODE_OF_READ, p, last, NONE);
 }
 
 // The list along the chain from a to b: k links are left from desk d on, and f is the file before it.

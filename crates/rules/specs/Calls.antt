@@ -45,8 +45,26 @@ firstCode = 1
 abbrev pub lastCode : ℕ
 lastCode = 8
 
+abbrev pub codeOfRead : ℕ
+codeOfRead = 1
+
 abbrev pub codeOfWrite : ℕ
 codeOfWrite = 2
+
+abbrev pub codeOfLock : ℕ
+codeOfLock = 3
+
+abbrev pub codeOfUnlock : ℕ
+codeOfUnlock = 4
+
+abbrev pub codeOfOpen : ℕ
+codeOfOpen = 5
+
+abbrev pub codeOfClose : ℕ
+codeOfClose = 6
+
+abbrev pub codeOfTestlock : ℕ
+codeOfTestlock = 7
 
 abbrev pub codeOfCopy : ℕ
 codeOfCopy = 8

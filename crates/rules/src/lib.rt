@@ -22,6 +22,23 @@ pub const W: u8 = 2;
 
 pub const BOTH: u8 = 3;
 
+// The codes of the calls.
+pub const CODE_OF_READ: u32 = 1;
+
+pub const CODE_OF_WRITE: u32 = 2;
+
+pub const CODE_OF_LOCK: u32 = 3;
+
+pub const CODE_OF_UNLOCK: u32 = 4;
+
+pub const CODE_OF_OPEN: u32 = 5;
+
+pub const CODE_OF_CLOSE: u32 = 6;
+
+pub const CODE_OF_TESTLOCK: u32 = 7;
+
+pub const CODE_OF_COPY: u32 = 8;
+
 #[repr(C)]
 pub struct Setup {
     pub desks: u32,
