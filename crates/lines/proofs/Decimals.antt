@@ -15,17 +15,17 @@ use Rattle.lines.specs.Bytes.{digit0, digit}
 use Rattle.lines.specs.Decimals.{ten, isDigit, areDigits, startsWell, valueAfter, valueOf, isNumber, numberOf, digitsWithin, digitsOf}
 
 -- one digit more on the right
-valueAfter-more : (v : ℕ) (xs : List ℕ) (b : ℕ) → valueAfter v (xs ++ (b ∷ [])) ≡ valueAfter v xs * ten + (b - digit0)
+pub valueAfter-more : (v : ℕ) (xs : List ℕ) (b : ℕ) → valueAfter v (xs ++ (b ∷ [])) ≡ valueAfter v xs * ten + (b - digit0)
 valueAfter-more v [] b = refl
 valueAfter-more v (x ∷ xs) b = valueAfter-more (v * ten + (x - digit0)) xs b
 
-areDigits-more : (xs : List ℕ) (b : ℕ) → areDigits xs ≡ true → isDigit b ≡ true → areDigits (xs ++ (b ∷ [])) ≡ true
+pub areDigits-more : (xs : List ℕ) (b : ℕ) → areDigits xs ≡ true → isDigit b ≡ true → areDigits (xs ++ (b ∷ [])) ≡ true
 areDigits-more [] b h k = rw k
 areDigits-more (x ∷ xs) b h k =
     let (d, ds) = and-eq-true-iff (isDigit x) (areDigits xs) .0 h in
     and-eq-true-iff (isDigit x) (areDigits (xs ++ (b ∷ []))) .1 (d, areDigits-more xs b ds k)
 
-isDigit-iff : (b : ℕ) → (isDigit b ≡ true) ↔ ((digit0 ≤ b) × (b < digit ten))
+pub isDigit-iff : (b : ℕ) → (isDigit b ≡ true) ↔ ((digit0 ≤ b) × (b < digit ten))
 isDigit-iff b = (
   λ h. let (l, m) = and-eq-true-iff (leb digit0 b) (ltb b (digit ten)) .0 h in (leb-true digit0 b l, ltb-true b (digit ten) m),
   λ h. and-eq-true-iff (leb digit0 b) (ltb b (digit ten)) .1 (le-leb digit0 b (h .0), lt-ltb b (digit ten) (h .1)),

@@ -1,0 +1,192 @@
+-- Laws of the first field and the first line of bytes: where each ends, what stands before its mark, and what follows it.
+-- Assumes nothing.
+use Prim.Native.Nat.{ℕ, zero, suc, _+_, _≤_, _<_}
+use mathlib.Core.Path.{_≡_, refl, ap, sym, _∙_}
+use mathlib.Core.Bool.{Bool, true, false, not, cond, and-eq-true-iff, false≢true}
+use mathlib.Core.Logic.{_⊎_, inl, inr}
+use mathlib.Core.List.{List, [], _∷_, _++_}
+use mathlib.Core.Option.{Option, some, none}
+use native.Mathlib.Numerals.{towards-suc}
+use native.Mathlib.Nat.{add-assoc}
+use native.Mathlib.Omega.{arith}
+use borrow.Author.Tests.{eqb-true, eq-eqb, not-true}
+use lib.Dec.{eqb}
+use lib.ListN.{length, drop, length-append, length-drop}
+use lib.Seq.{drop-drop, drop-append-add}
+use Rattle.rules.proofs.Lists.{by-test, neither}
+use Rattle.lines.specs.Bytes.{lineFeed, tab}
+use Rattle.lines.specs.Lines.{pieces, fieldsOf}
+use Rattle.lines.specs.Shapes.{Part}
+use Rattle.lines.proofs.Lines.{without, pieces-last}
+use Rattle.lines.proofs.Shapes.{none-some}
+use Rattle.fields.specs.Cursor.{foundAt, told, isMark, firstField, afterField, startsWith, partOf, partAt, firstLine, isWhole, lineAt}
+
+-- where bytes are cut first: nowhere, at a tab, or at an LF
+pub data Cut (rest : List ℕ) : Type 0 where
+  cut-none : without lineFeed rest ≡ true → afterField rest ≡ [] → Cut rest
+  cut-tab : (field more : List ℕ) → rest ≡ field ++ (tab ∷ more) → without tab field ≡ true → without lineFeed field ≡ true
+      → firstField rest ≡ field → afterField rest ≡ tab ∷ more → Cut rest
+  cut-feed : (field more : List ℕ) → rest ≡ field ++ (lineFeed ∷ more) → without tab field ≡ true → without lineFeed field ≡ true
+      → firstField rest ≡ field → afterField rest ≡ lineFeed ∷ more → Cut rest
+
+cut-later : (b : ℕ) (rest : List ℕ) → eqb b tab ≡ false → eqb b lineFeed ≡ false → Cut rest → Cut (b ∷ rest)
+unfolding firstField afterField
+cut-later b rest t l (cut-none w a) = cut-none (rw (l, w)) (rw (t, l) a)
+cut-later b rest t l (cut-tab field more e w v f a) = cut-tab (b ∷ field) more (cc) (rw (t, w)) (rw (l, v)) (rw (t, l) (cc)) (rw (t, l) a)
+cut-later b rest t l (cut-feed field more e w v f a) = cut-feed (b ∷ field) more (cc) (rw (t, w)) (rw (l, v)) (rw (t, l) (cc)) (rw (t, l) a)
+
+pub cut : (rest : List ℕ) → Cut rest
+unfolding firstField afterField
+cut [] = cut-none refl refl
+cut (b ∷ rest) =
+    by-test (eqb b tab)
+    (λ t. let e = eqb-true b tab t in cut-tab [] rest (cc) refl refl (rw t) (rw t (cc)))
+    (λ t.
+    by-test (eqb b lineFeed)
+    (λ l. let e = eqb-true b lineFeed l in cut-feed [] rest (cc) refl refl (rw (t, l)) (rw (t, l) (cc)))
+    (λ l. cut-later b rest t l (cut rest)))
+
+-- a field and what follows it are the bytes
+pub field-whole : (rest : List ℕ) → rest ≡ firstField rest ++ afterField rest
+unfolding firstField afterField
+field-whole [] = refl
+field-whole (b ∷ rest) = by-test (isMark b) (λ t. rw t) (λ f. rw f (ap (λ (l : List ℕ). b ∷ l) (field-whole rest)))
+
+-- one that a mark ends is read by its part
+pub part-here : (part : Part) (mark : ℕ) (text : List ℕ) (at : ℕ) (field more : List ℕ) → firstField (drop at text) ≡ field
+    → afterField (drop at text) ≡ mark ∷ more → partAt part mark text at ≡ foundAt (at + length field + 1) (partOf part field)
+unfolding partAt
+part-here part mark text at field more f a = rw (f, a, eq-eqb mark mark refl)
+
+-- bytes before a mark and the mark, dropped, leave what follows the mark
+pub drop-past : (text : List ℕ) (at mark : ℕ) (bytes more : List ℕ) → drop at text ≡ bytes ++ (mark ∷ more)
+    → drop (at + length bytes + 1) text ≡ more
+drop-past text at mark bytes more e =
+    rw (add-assoc at (length bytes) 1, ← drop-drop (length bytes + 1) at text, e) (drop-append-add bytes (mark ∷ more) 1)
+
+-- the first line goes on past bytes that hold no LF, and is whole where what follows them is
+pub firstLine-past : (bytes more : List ℕ) → without lineFeed bytes ≡ true → firstLine (bytes ++ more) ≡ bytes ++ firstLine more
+unfolding firstLine
+firstLine-past [] more h = refl
+firstLine-past (b ∷ bytes) more h =
+    let (n, w) = and-eq-true-iff (not (eqb b lineFeed)) (without lineFeed bytes) .0 h in
+    rw (not-true (eqb b lineFeed) n, firstLine-past bytes more w)
+
+pub isWhole-past : (bytes more : List ℕ) → without lineFeed bytes ≡ true → isWhole (bytes ++ more) ≡ isWhole more
+unfolding isWhole
+isWhole-past [] more h = refl
+isWhole-past (b ∷ bytes) more h =
+    let (n, w) = and-eq-true-iff (not (eqb b lineFeed)) (without lineFeed bytes) .0 h in
+    rw (not-true (eqb b lineFeed) n, isWhole-past bytes more w)
+
+-- the first line holds no LF
+pub line-without : (rest : List ℕ) → without lineFeed (firstLine rest) ≡ true
+unfolding firstLine
+line-without [] = refl
+line-without (b ∷ rest) =
+    by-test (eqb b lineFeed) (λ t. rw t) (λ f. rw (f, f, line-without rest))
+
+-- bytes without a whole line are a line with no LF, and so one piece
+pub unwhole-without : (rest : List ℕ) → isWhole rest ≡ false → without lineFeed rest ≡ true
+unfolding isWhole
+unwhole-without [] h = refl
+unwhole-without (b ∷ rest) h =
+    let (f, g) = neither (eqb b lineFeed) (isWhole rest) .0 h in
+    rw (f, unwhole-without rest g)
+
+pub unwhole-piece : (rest : List ℕ) → isWhole rest ≡ false → pieces lineFeed rest ≡ rest ∷ []
+unwhole-piece rest h = pieces-last lineFeed rest (unwhole-without rest h)
+
+-- whole bytes are their first line, its LF, and what follows that
+pub whole-line : (rest : List ℕ) → isWhole rest ≡ true → rest ≡ firstLine rest ++ (lineFeed ∷ drop (length (firstLine rest) + 1) rest)
+unfolding isWhole firstLine
+whole-line [] h = absurd (false≢true h)
+whole-line (b ∷ rest) h =
+    by-test (eqb b lineFeed) (λ t. rw t (let e = eqb-true b lineFeed t in cc))
+    (λ f. let e = whole-line rest (rw f at h) in rw f (simp towards-suc (simp towards-suc at (ap (λ (l : List ℕ). b ∷ l) e))))
+
+-- how code tells what it found: by a cursor that is not 0 that there is something
+pub told-some {ℓ} : {A : Type ℓ} (r : ℕ) (x : A) → (r ≡ 0 → ⊥) → told r x ≡ some (r, x)
+told-some zero x h = absurd (h refl)
+told-some (suc r) x h = refl
+
+pub told-none {ℓ} : {A : Type ℓ} (r : ℕ) (x : A) → r ≡ 0 → told r x ≡ none
+told-none r x h = rw h
+
+-- what is found under a test was there, with the cursor and what was read
+pub found-under {ℓ} : {A : Type ℓ} (test : Bool) (k : ℕ) (o : Option A) {next : ℕ} {x : A} → cond test (foundAt k o) none ≡ some (next, x)
+    → (test ≡ true) × (next ≡ k) × (o ≡ some x)
+found-under false k o e = absurd (none-some e)
+found-under true k none e = absurd (none-some e)
+found-under {A} true k (some y) {next} {x} e =
+    let both : _≡_ {A = ℕ × A} (k, y) (next, x) = cc in
+    (refl, sym (ap (λ (p : ℕ × A). p .0) both), ap (λ (p : ℕ × A). some (p .1)) both)
+
+-- and where nothing is found the test failed, or what was read is nothing
+pub none-under {ℓ} : {A : Type ℓ} (test : Bool) (k : ℕ) (o : Option A) → cond test (foundAt k o) none ≡ none
+    → ((test ≡ true) × (o ≡ none)) ⊎ (test ≡ false)
+none-under false k o e = inr refl
+none-under true k none e = inl (refl, refl)
+none-under true k (some y) e = absurd (none-some (sym e))
+
+-- bytes that start with a mark are some
+starts-some : (mark : ℕ) (bytes : List ℕ) → startsWith mark bytes ≡ true → 0 < length bytes
+starts-some mark [] t = absurd (false≢true t)
+starts-some mark (b ∷ bytes) t = omega arith
+
+-- a field that a mark ends lies within the text, and so does its mark
+pub part-within : (part : Part) (mark : ℕ) (text : List ℕ) (at : ℕ) {next n : ℕ} → partAt part mark text at ≡ some (next, n)
+    → (at < next) × (next ≤ length text)
+unfolding partAt
+part-within part mark text at {next} {n} e =
+    let rest = drop at text in
+    let (t, k, o) = found-under (startsWith mark (afterField rest)) (at + length (firstField rest) + 1) (partOf part (firstField rest)) e in
+    let some-left : 0 < length (afterField rest) = starts-some mark (afterField rest) t in
+    let l = simp length-append at (ap length (field-whole rest)) in
+    let m = length-drop at text in
+    (omega arith, omega arith)
+
+-- a line that is found is the bytes from the cursor as far as the next LF, and the cursor after it is past that LF
+pub record LineFound {ℓ} {A : Type ℓ} (read : List (List ℕ) → Option A) (text : List ℕ) (at next : ℕ) (x : A) : Type ℓ where
+  pub here : drop at text ≡ firstLine (drop at text) ++ (lineFeed ∷ drop next text)
+  pub plain : without lineFeed (firstLine (drop at text)) ≡ true
+  pub past : next ≡ at + length (firstLine (drop at text)) + 1
+  pub reads : read (fieldsOf (firstLine (drop at text))) ≡ some x
+
+pub line-found {ℓ} : {A : Type ℓ} (read : List (List ℕ) → Option A) (text : List ℕ) (at : ℕ) {next : ℕ} {x : A}
+    → lineAt read text at ≡ some (next, x) → LineFound read text at next x
+unfolding lineAt
+line-found read text at {next} {x} e =
+    let rest = drop at text in
+    let bytes = firstLine rest in
+    let (w, k, o) = found-under (isWhole rest) (at + length bytes + 1) (read (fieldsOf bytes)) e in
+    let whole = whole-line rest w in
+    let after : drop (length bytes + 1) rest ≡ drop next text = rw k (sym (drop-past text at lineFeed bytes (drop (length bytes + 1) rest) whole)) in
+    record { here = whole ∙ ap (λ (more : List ℕ). bytes ++ (lineFeed ∷ more)) after; plain = line-without rest; past = k; reads = o }
+
+-- where none is found there is a whole line that is not read so, or no whole line
+pub line-none {ℓ} : {A : Type ℓ} (read : List (List ℕ) → Option A) (text : List ℕ) (at : ℕ) → lineAt read text at ≡ none
+    → ((isWhole (drop at text) ≡ true) × (read (fieldsOf (firstLine (drop at text))) ≡ none)) ⊎ (isWhole (drop at text) ≡ false)
+unfolding lineAt
+line-none read text at e =
+    let bytes = firstLine (drop at text) in
+    none-under (isWhole (drop at text)) (at + length bytes + 1) (read (fieldsOf bytes)) e
+
+-- a line that is found lies within the text, and so does its LF
+pub line-within {ℓ} : {A : Type ℓ} (read : List (List ℕ) → Option A) (text : List ℕ) (at : ℕ) {next : ℕ} {x : A}
+    → lineAt read text at ≡ some (next, x) → (at < next) × (next ≤ length text)
+line-within read text at {next} {x} e =
+    let found = line-found read text at e in
+    let l = simp length-append at (ap length (found .here)) in
+    let m = length-drop at text in
+    let p = found .past in
+    (omega arith, omega arith)
+
+-- the same of what code tells of a field and of a line
+pub part-told : (part : Part) (mark : ℕ) (text : List ℕ) (at r n : ℕ) → told r n ≡ partAt part mark text at → (r ≡ 0 → ⊥)
+    → (at < r) × (r ≤ length text)
+part-told part mark text at r n e h = part-within part mark text at (sym e ∙ told-some r n h)
+
+pub line-told {ℓ} : {A : Type ℓ} (read : List (List ℕ) → Option A) (text : List ℕ) (at r : ℕ) (x : A) → told r x ≡ lineAt read text at → (r ≡ 0 → ⊥)
+    → (at < r) × (r ≤ length text)
+line-told read text at r x e h = line-within read text at (sym e ∙ told-some r x h)

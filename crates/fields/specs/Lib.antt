@@ -1,0 +1,2 @@
+-- What the contracts of functions that are no entries cite: a text from a cursor on.
+pub mod Cursor
