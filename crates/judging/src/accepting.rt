@@ -135,7 +135,7 @@ fn setup_from(
     }
 }
 
-fn blank_setup() -> Setup
+pub fn blank_setup() -> Setup
     ensures { λ r. ⌜ r ≡ blankSetup ⌝ }
 {
     Setup {

@@ -62,7 +62,7 @@ record First (t : Text) (s : SoFar) (lines : List Line) (r at : ℕ) : Type 0 wh
   refuses : judge t so-far faulty ≡ refused r at
 
 -- lines after a refusal are not judged
-refused-stays : (t : Text) (r at : ℕ) (lines : List Line) → judgeAll t (refused r at) lines ≡ refused r at
+pub refused-stays : (t : Text) (r at : ℕ) (lines : List Line) → judgeAll t (refused r at) lines ≡ refused r at
 unfolding judgeAll
 refused-stays t r at [] = refl
 refused-stays t r at (l ∷ lines) = refused-stays t r at lines

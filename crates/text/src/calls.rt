@@ -1,0 +1,43 @@
+// Reading call lines into a run of numbers.
+use crate::CallSpan;
+use fields::shapes::call_at;
+use lists::CALLS;
+use lists::writing::put_call;
+ghost use Prim.Native.Nat.{_*_, _≤_};
+ghost use lib.ListN.{length};
+ghost use Rattle.lists.specs.Lists.{mostCalls, callWidth};
+ghost use Rattle.text.specs.Stages.{CallsEnd};
+
+// The call lines to the end of the text, as numbers at the front of a run that has room for the most.
+pub fn call_lines(text: &[u8], start: usize, calls: &mut [u32]) -> CallSpan
+    requires { ⌜ (start ≤ length (now text)) × (mostCalls * callWidth ≤ length (now calls)) ⌝ }
+    ensures { λ r. ⌜ CallsEnd (now (text .entry)) start (r .refusal) (r .at) (r .count) (now (calls .entry)) (now (calls .exit)) ⌝ }
+{
+    let mut at = start;
+    let mut count = 0;
+    while at < text.len() {
+        if CALLS <= count {
+            return CallSpan {
+                refusal: 14,
+                at,
+                count: 0,
+            };
+        }
+        let line = call_at(text, at);
+        if line.next == 0 {
+            return CallSpan {
+                refusal: 14,
+                at,
+                count: 0,
+            };
+        }
+        put_call(calls, count, line.op, line.p, line.f, line.x);
+        at = line.next;
+        count += 1;
+    }
+    CallSpan {
+        refusal: 0,
+        at,
+        count,
+    }
+}
