@@ -365,6 +365,111 @@ static void measure_route(const char *name, void make(dw_setup *), uint32_t a, u
            our.kind == DW_ROUTE ? our.value : 0);
 }
 
+/* ---- Texts: the largest that the program takes. */
+
+enum { INPUT = 32768, READINGS = 5, DIGITS = 10, LONG_CALL = 39, SHORT_CALL = 15 };
+
+static uint8_t text[INPUT];
+static size_t text_len;
+
+static void put_bytes(const char *bytes)
+{
+    while (*bytes != 0)
+        text[text_len++] = (uint8_t)*bytes++;
+}
+
+static void put_field(uint32_t n, char mark)
+{
+    char digits[DIGITS + 1];
+    int at = DIGITS;
+
+    digits[at] = 0;
+    do
+        digits[--at] = (char)('0' + n % 10);
+    while ((n /= 10) != 0);
+    put_bytes(digits + at);
+    text[text_len++] = (uint8_t)mark;
+}
+
+/* Every right set, and as many processes and files as can be. */
+static void put_setup_lines(void)
+{
+    put_bytes("store\t1\t");
+    put_field(DW_DESKS, '\t');
+    put_field(DW_CLASSES, '\t');
+    put_field(DW_PROCESSES, '\t');
+    put_field(DW_FILES, '\n');
+    for (uint32_t i = 0; i < DW_RIGHTS; i++) {
+        put_bytes("access\t");
+        put_field(i / DW_CLASSES, '\t');
+        put_field(i % DW_CLASSES, '\t');
+        put_bytes(i % 3 == 0 ? "R\n" : i % 3 == 1 ? "W\n" : "RW\n");
+    }
+    for (uint32_t p = 0; p < DW_PROCESSES; p++) {
+        put_bytes("process\t");
+        put_field(p, '\t');
+        put_field(p % DW_DESKS, '\n');
+    }
+    for (uint32_t f = 0; f < DW_FILES; f++) {
+        put_bytes("file\t");
+        put_field(f, '\t');
+        put_field(f % DW_CLASSES, '\n');
+    }
+}
+
+/* A call of any word, with numbers from a base on. */
+static void put_call_line(uint32_t base)
+{
+    static const char *const words[] = {"read\t", "write\t", "lock\t", "unlock\t", "open\t", "close\t", "testlock\t", "copy\t"};
+    uint32_t op = 1 + below(DW_COPY);
+
+    put_bytes(words[op - 1]);
+    put_field(base + below(100), '\t');
+    if (op == DW_WRITE || op == DW_COPY)
+        put_field(base + below(100), '\t');
+    put_field(base + below(100), '\n');
+}
+
+static void make_text(void)
+{
+    put_setup_lines();
+    put_bytes("calls\t1\n");
+    /* Long numbers, as far as every call after it still has room for short ones. */
+    for (uint32_t i = 0; i < DW_CALLS; i++)
+        put_call_line(INPUT - text_len >= LONG_CALL + (DW_CALLS - 1 - i) * SHORT_CALL ? 4294967000u : 0);
+}
+
+typedef dw_text reader(const uint8_t *text, size_t text_len, uint32_t *room, size_t room_len);
+
+static double reading_time(reader *read, uint32_t *room, dw_text *answer)
+{
+    double began = now();
+
+    for (int i = 0; i < READINGS; i++)
+        *answer = read(text, text_len, room, DW_CALLS * DW_CALL_WIDTH);
+    return (now() - began) / READINGS;
+}
+
+static void measure_text(void)
+{
+    static double our_times[RUNS], peer_times[RUNS];
+    static uint32_t our_room[DW_CALLS * DW_CALL_WIDTH], peer_room[DW_CALLS * DW_CALL_WIDTH];
+    double our_time, peer_time;
+    dw_text our, peer;
+
+    make_text();
+    for (int i = 0; i < RUNS; i++) {
+        our_times[i] = reading_time(dw_read_with_calls, our_room, &our);
+        peer_times[i] = reading_time(peer_read_with_calls, peer_room, &peer);
+        differs |= memcmp(&our, &peer, sizeof our) != 0 || our.answer.value != DW_CALLS;
+        differs |= memcmp(our_room, peer_room, sizeof our_room) != 0;
+    }
+    our_time = median(our_times);
+    peer_time = median(peer_times);
+    printf("%-32s %10.1f %10.1f %8.2f %9lu bytes\n", "(c) text, dw_read_with_calls", our_time, peer_time,
+           our_time / peer_time, (unsigned long)text_len);
+}
+
 int main(void)
 {
     int went;
@@ -390,6 +495,7 @@ int main(void)
     measure_route("no route, back along the line", make_line, DW_DESKS - 1, 0);
     measure_route("route, all rights set", make_full, 0, DW_DESKS - 1);
     measure_route("route at once, beside a line", make_shortcut, 0, DW_DESKS - 1);
+    measure_text();
     if (went * 2 < DW_CALLS) {
         printf("FAILED: fewer than half of the calls go through\n");
         return 1;

@@ -1,4 +1,4 @@
-# Sourced from the root of the repository: how C is compiled, linked with the library for hosts, and run.
+# Sourced from the root of the repository: how the library and the programs are built, and how C is compiled, linked and run.
 # The kit does all of it, with its own C library, on x86-64 as on Arm, so that no other compiler is asked for. The
 # library is for x86-64; on another machine the kit's emulator runs what was linked.
 
@@ -16,14 +16,18 @@ find_kit() {
 }
 
 # A folder is newer once a file in it was made or removed.
-is_stale() { [ ! -f "$library" ] || [ -n "$(find crates crates.txt "$kit_id" -newer "$library" -print -quit)" ]; }
+is_stale() { [ ! -f "$1" ] || [ -n "$(find crates crates.txt "$kit_id" -newer "$1" -print -quit)" ]; } # BUILT
 
-# Proves and builds the library where it is missing or older than what it is made of. What rt says is shown if it fails.
-need_library() {
+# Proves and builds what is missing or older than what it is made of. What rt says is shown if it fails.
+need() { # BUILT COMMAND..
     local said
-    is_stale || return 0
-    said=$("$rt" staticlib host 2>&1) || { printf '%s\n' "$said" >&2; return 1; }
+    is_stale "$1" || return 0
+    said=$("$rt" "${@:2}" 2>&1 </dev/null) || { printf '%s\n' "$said" >&2; return 1; }
+    touch "$1" # where nothing of it had changed rt leaves it as old as it was
 }
+
+need_library() { need "$library" staticlib host; }
+need_program() { need "target/bin/$1" check "$1"; } # NAME
 
 # Whether the library defines a function.
 in_library() { grep -aqw -- "$1" "$library"; } # NAME

@@ -64,6 +64,9 @@ extern "C" {
 #define DW_CALL_WIDTH 4
 #define DW_ANSWER_WIDTH 2
 
+/* Room for the calls of every text. */
+#define DW_CALL_NUMBERS (DW_CALLS * DW_CALL_WIDTH)
+
 /* A route over k links is shown by 4k + 1 calls, and a chain needs one link less than there are desks. So this is room for
  * every list: 61 calls, 244 numbers. */
 #define DW_ROUTE_CALLS(links) (4 * (links) + 1)
@@ -115,13 +118,13 @@ extern "C" {
  *    9  COPY with x equal to f
  *   10  the lengths of a setup's runs do not match its counts; or a list's length is not a multiple
  *       of 4, or is above 4096
- *   11  room for answers shorter than two numbers a call; or room for a route below 244 numbers
+ *   11  room for answers shorter than two numbers a call; or room for a route below 244 numbers; or room
+ *       for the calls of a text below 4096
  *   12  a route desk is the number of desks or more
  *   13  the two route desks are equal
+ *   14  a text breaks the line rules
  *   15  a setup that could not have been accepted
- *   16  a store that does not fit its setup
- *
- * No function of this header gives 14. */
+ *   16  a store that does not fit its setup */
 
 /* ---- Structs. Fields lie in this order with nothing between them; every number is in the machine's order. */
 
@@ -172,6 +175,13 @@ typedef struct dw_listed {
     dw_store store;
 } dw_listed;                        /* 2312 bytes */
 
+/* What became of a text, and the setup that was read. */
+typedef struct dw_text {
+    dw_answer answer;               /* kind 0 and the number of calls read; or DW_REFUSED and the number */
+    size_t offset;                  /* where the text is refused, of the faulty line's first byte; else 0 */
+    dw_setup setup;                 /* where the text is refused, all of it is 0 */
+} dw_text;                          /* 384 bytes */
+
 /* ---- Functions. A length counts entries, not bytes. */
 
 /* The setup that four counts and three runs of bytes give. The runs have desks * classes rights, row
@@ -219,6 +229,22 @@ dw_listed dw_run(dw_setup setup, dw_store store, const uint32_t *calls, size_t c
  * it, LOCK of the next, COPY, UNLOCK; b's OPEN and READ. What lies past the list keeps its values.
  * Refusals, in this order: 15, 12, 13, 11. A refusal, and DW_NO_ROUTE, write nothing. */
 dw_answer dw_route(dw_setup setup, uint32_t a, uint32_t b, uint32_t *room, size_t room_len);
+
+/* A setup text, of any bytes. Its lines end with LF, their fields are parted by one tab, numbers are decimal:
+ * `store`, `1` and the counts of desks, classes, processes and files; then `access` lines with desk, class and
+ * `R`, `W` or `RW`, strictly rising by desk, then class, absent pairs meaning none; then a line `process`,
+ * number, desk for each process and a line `file`, number, class for each file, numbers upward from 0. A
+ * further line is 14. The first faulty line decides, and its first byte's offset is told; for a missing line
+ * that is the length of the text. Within a line: its shape (14), then 1, 3, 4, then rising order (14).
+ * The text is only read. */
+dw_text dw_read_alone(const uint8_t *text, size_t text_len);
+
+/* A setup text and the call text that follows it: `calls`, `1`; then up to 1024 lines, each a word (`read`,
+ * `write`, `lock`, `unlock`, `open`, `close`, `testlock`, `copy`), p, f, and for `write` and `copy` x. The
+ * calls fill the front of room, four numbers each as dw_run takes them; what lies past them keeps its values.
+ * Refusals: 11, with offset 0; then those of the text's lines. A refusal writes nothing. A call's own refusals
+ * belong to running it. room must not overlap the text. */
+dw_text dw_read_with_calls(const uint8_t *text, size_t text_len, uint32_t *room, size_t room_len);
 
 #ifdef __cplusplus
 }

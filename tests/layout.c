@@ -14,6 +14,7 @@ _Static_assert(sizeof(dw_setup) == 368, "a setup has no gaps");
 _Static_assert(sizeof(dw_store) == 2304, "a store has no gaps");
 _Static_assert(sizeof(dw_given_setup) == 372 && sizeof(dw_given_store) == 2308, "a number, and what is given");
 _Static_assert(sizeof(dw_called) == 2312 && sizeof(dw_listed) == 2312, "an answer, and a store");
+_Static_assert(sizeof(dw_text) == 384, "an answer, an offset, and a setup");
 
 /* ---- Counting. One group of checks passes or fails as a whole; its first failures are printed. */
 
@@ -673,6 +674,82 @@ static void routes_keep_to_their_room(void)
     route_is(s, 3, 3, 0, DW_REFUSED, 15, one_link, 0);
 }
 
+/* ---- Texts. The trial setup and two calls, with a guard right past the last byte. */
+
+static struct guarded_text {
+    uint8_t before[GUARD];
+    uint8_t bytes[512];
+    uint8_t after[GUARD];
+} text;
+
+static const char setup_lines[] = "store\t1\t3\t2\t3\t2\naccess\t0\t0\tW\naccess\t1\t0\tR\naccess\t1\t1\tW\n"
+                                  "access\t2\t1\tR\nprocess\t0\t0\nprocess\t1\t1\nprocess\t2\t2\nfile\t0\t0\nfile\t1\t1\n";
+static const char call_lines[] = "calls\t1\nwrite\t4294967295\t7\t8\ntestlock\t2\t1\n";
+
+/* Puts bytes at the end of the text's place and answers where they start. */
+static uint8_t *make_text(const char *one, const char *other)
+{
+    size_t len = 0, i = 0;
+
+    while (one[len] != 0)
+        len++;
+    while (other[i] != 0)
+        i++;
+    set_guard(text.before);
+    set_guard(text.after);
+    memcpy(text.bytes + sizeof text.bytes - i, other, i);
+    memcpy(text.bytes + sizeof text.bytes - i - len, one, len);
+    return text.bytes + sizeof text.bytes - i - len;
+}
+
+static size_t len_from(const uint8_t *at)
+{
+    return (size_t)(text.bytes + sizeof text.bytes - at);
+}
+
+/* What is read of a text, or why it is refused; no refusal hands back a setup. */
+static void text_is(dw_text t, uint32_t kind, uint32_t value, size_t offset, const dw_setup *s)
+{
+    CHECK(is_answer(t.answer, kind, value));
+    CHECK(t.offset == offset);
+    CHECK(memcmp(&t.setup, s, sizeof *s) == 0);
+    CHECK(has_guard(text.before) && has_guard(text.after));
+}
+
+static void setups_are_read(void)
+{
+    dw_setup s = trial_setup(), none;
+    uint8_t *at = make_text(setup_lines, "");
+
+    memset(&none, 0, sizeof none);
+    text_is(dw_read_alone(at, len_from(at)), 0, 0, 0, &s);
+    text_is(dw_read_alone(at, len_from(at) - 1), DW_REFUSED, 14, len_from(at) - 9, &none);
+    text_is(dw_read_alone(at, 0), DW_REFUSED, 14, 0, &none);
+    at = make_text(setup_lines, "calls\t1\n");
+    text_is(dw_read_alone(at, len_from(at)), DW_REFUSED, 14, len_from(at) - 8, &none);
+}
+
+/* The calls go to the front of the room and no further; a refusal leaves it as it was. */
+static void texts_keep_to_their_room(void)
+{
+    static const uint32_t expected[] = {DW_WRITE, 0xFFFFFFFFu, 7, 8, DW_TESTLOCK, 2, 1, 0};
+    enum { WRITTEN = sizeof expected / sizeof expected[0], SPARE = CALLS_LEN - DW_CALL_NUMBERS };
+    dw_setup s = trial_setup(), none;
+    uint8_t *at = make_text(setup_lines, call_lines);
+    uint32_t *front = last_numbers(&room, DW_CALL_NUMBERS);
+
+    memset(&none, 0, sizeof none);
+    make_room();
+    text_is(dw_read_with_calls(at, len_from(at) - 1, front, DW_CALL_NUMBERS), DW_REFUSED, 14, len_from(at) - 13, &none);
+    text_is(dw_read_with_calls(at, len_from(at), front + 1, DW_CALL_NUMBERS - 1), DW_REFUSED, 11, 0, &none);
+    room_is_untouched(0, CALLS_LEN);
+    text_is(dw_read_with_calls(at, len_from(at), front, DW_CALL_NUMBERS), 0, 2, 0, &s);
+    CHECK(memcmp(front, expected, sizeof expected) == 0);
+    room_is_untouched(0, SPARE);
+    room_is_untouched(SPARE + WRITTEN, CALLS_LEN);
+    guards_stand();
+}
+
 /* ---- */
 
 static const struct group {
@@ -693,6 +770,8 @@ static const struct group {
     {"a list keeps to its room", lists_keep_to_their_room},
     {"a refused list writes nothing", refused_lists_write_nothing},
     {"a route keeps to its room", routes_keep_to_their_room},
+    {"a setup text is read alone", setups_are_read},
+    {"a text's calls keep to their room", texts_keep_to_their_room},
 };
 
 int main(void)

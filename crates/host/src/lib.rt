@@ -1,6 +1,7 @@
 // What a program in another language is handed: an answer as two numbers, and beside it the next store.
 pub mod by_value;
 pub mod lent;
+pub mod texts;
 
 use calling::entry::call;
 use rules::Answer;
