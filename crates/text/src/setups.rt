@@ -99,28 +99,14 @@ fn entry_tables(text: &[u8], at: usize, counts: Counts, rights: [u8; RIGHTS]) ->
     ensures { λ r. ⌜ AfterAccess (now (text .entry)) at (header (counts .desks) (counts .classes) (counts .processes) (counts .files)) rights (r .refusal) (r .at) (r .setup) ⌝ }
 {
     let mut desk = [0u8; PROCESSES];
-    let last_process = counts.processes as usize;
-    let process = entry_lines(
-        text,
-        at,
-        &PROCESS,
-        counts.desks,
-        3,
-        &mut desk[..last_process],
-    );
+    let p = counts.processes as usize;
+    let process = entry_lines(text, at, &PROCESS, counts.desks, 3, &mut desk[..p]);
     if process.refusal != 0 {
         return refused_setup(process.refusal, process.at);
     }
     let mut class = [0u8; FILES];
-    let last_file = counts.files as usize;
-    let file = entry_lines(
-        text,
-        process.at,
-        &FILE,
-        counts.classes,
-        4,
-        &mut class[..last_file],
-    );
+    let f = counts.files as usize;
+    let file = entry_lines(text, process.at, &FILE, counts.classes, 4, &mut class[..f]);
     if file.refusal != 0 {
         return refused_setup(file.refusal, file.at);
     }

@@ -9,8 +9,8 @@ use Rattle.text.proofs.Ended.{when-sound, when-refused, front-length, s
 use Rattle.text.proofs.setups.entry_tables.Statement.{statement}
 use Rattle.text.proofs.setups.entry_tables.Tie as tie
 
-cast-last-process : tie.Need-cast-last-process
-cast-last-process c = search needs
+cast-p : tie.Need-cast-p
+cast-p c = search needs
 
 slice-aggregate-entry-lines : tie.Need-slice-aggregate-entry-lines
 slice-aggregate-entry-lines c = search needs
@@ -40,8 +40,8 @@ returns c =
     (processes-refused t _ _ _ _ _ sizes _ access inside _ are start _ every-process _ _
     (when-refused _ _ _ (c .before .if1 .taken) (process .entry-lines .ensures)))
 
-cast-last-file : tie.Need-cast-last-file
-cast-last-file c = search needs
+cast-f : tie.Need-cast-f
+cast-f c = search needs
 
 slice-aggregate-entry-lines-3 : tie.Need-slice-aggregate-entry-lines-3
 slice-aggregate-entry-lines-3 c = search needs
@@ -97,14 +97,14 @@ pub entry-tables-spec : {M : Type 1} → statement M
 entry-tables-spec =
     tie.close
     (tie.spec
-    cast-last-process
+    cast-p
     slice-aggregate-entry-lines
     array-borrow-prefix-desk
     slice-aggregate-entry-lines-2
     entry-lines-requires
     refused-setup-requires
     returns
-    cast-last-file
+    cast-f
     slice-aggregate-entry-lines-3
     array-borrow-prefix-class
     slice-aggregate-entry-lines-4
