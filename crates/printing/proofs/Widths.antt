@@ -9,10 +9,9 @@ use borrow.Author.Tests.{ltb-true, ltb-false}
 use lib.Dec.{ltb}
 use lib.ListN.{length, length-append}
 use Rattle.rules.specs.Sizes.{mostNumber}
-use Rattle.rules.specs.Answers.{valueOf}
+use Rattle.rules.specs.Answers.{valueOf, answerOf}
 use Rattle.rules.specs.declared.Answer.{Answer}
 use Rattle.rules.specs.declared.Answer.the-variants.{Nothing, Figure, Yes, No, Refused}
-use Rattle.rules.proofs.Answers.{answerOf}
 use Rattle.rules.proofs.Lists.{by-test}
 use Rattle.lists.specs.Lists.{mostCalls}
 use Rattle.lines.specs.Bytes.{tab, digit}

@@ -8,7 +8,7 @@ use Rattle.rules.specs.Sizes.{table}
 use Rattle.rules.specs.Setups.{accepted}
 use Rattle.rules.specs.declared.Setup.{Setup}
 use Rattle.rules.specs.declared.Answer.{Answer}
-use Rattle.rules.proofs.Answers.{answerOf}
+use Rattle.rules.specs.Answers.{answerOf}
 use Rattle.lists.specs.Lists.{mostCalls, callWidth, answerWidth}
 
 -- the run with bytes from a place on, and all else as it was

@@ -1,16 +1,9 @@
 -- Laws of answers as two numbers.
 -- Assumes nothing.
-use Prim.Native.Nat.{ℕ}
 use mathlib.Core.Path.{_≡_, refl, ap, sym, _∙_}
-use mathlib.Core.List.{[], _∷_}
-use lib.ListN.{getD}
-use Rattle.rules.specs.Answers.{numbersOf}
+use Rattle.rules.specs.Answers.{numbersOf, answerOf}
 use Rattle.rules.specs.declared.Answer.{Answer}
 use Rattle.rules.specs.declared.Answer.the-variants.{Nothing, Figure, Yes, No, Refused}
-
--- the answer that two numbers stand for
-abbrev pub answerOf : ℕ × ℕ → Answer
-answerOf n = getD (Nothing ∷ Figure (n .1) ∷ Yes ∷ No ∷ Refused (n .1) ∷ []) (n .0) Nothing
 
 pub answerOf-numbersOf : (a : Answer) → answerOf (numbersOf a) ≡ a
 answerOf-numbersOf Nothing = refl

@@ -1,5 +1,7 @@
 -- 01, "Lists and answers": each answer as two numbers.
 use Prim.Native.Nat.{ℕ}
+use mathlib.Core.List.{[], _∷_}
+use lib.ListN.{getD}
 use Rattle.rules.specs.declared.Answer.{Answer}
 use Rattle.rules.specs.declared.Answer.the-variants.{Nothing, Figure, Yes, No, Refused}
 
@@ -16,3 +18,7 @@ kindOf answer = numbersOf answer .0
 
 abbrev pub valueOf : Answer → ℕ
 valueOf answer = numbersOf answer .1
+
+-- the answer that two numbers stand for, in the order of their kinds
+abbrev pub answerOf : ℕ × ℕ → Answer
+answerOf n = getD (Nothing ∷ Figure (n .1) ∷ Yes ∷ No ∷ Refused (n .1) ∷ []) (n .0) Nothing

@@ -5,7 +5,7 @@ use mathlib.Core.Path.{_≡_, refl}
 use mathlib.Core.Logic.{_≢_}
 use borrow.Author.Needs.{needs}
 use Rattle.rules.specs.declared.Answer.the-variants.{Nothing}
-use Rattle.rules.proofs.Answers.{answerOf}
+use Rattle.rules.specs.Answers.{answerOf}
 use Rattle.printing.proofs.writing.answer_of.Statement.{statement}
 use Rattle.printing.proofs.writing.answer_of.Tie as tie
 
