@@ -365,9 +365,9 @@ static void measure_route(const char *name, void make(dw_setup *), uint32_t a, u
            our.kind == DW_ROUTE ? our.value : 0);
 }
 
-/* ---- Texts: the largest that the program takes. */
+/* ---- Texts: as large as the program takes, but for a few bytes. */
 
-enum { INPUT = 32768, READINGS = 5, DIGITS = 10, LONG_CALL = 39, SHORT_CALL = 15 };
+enum { INPUT = 32768, READINGS = 5, DAMAGES = 1000, DIGITS = 10, LONG_CALL = 39, SHORT_CALL = 15 };
 
 static uint8_t text[INPUT];
 static size_t text_len;
@@ -430,13 +430,18 @@ static void put_call_line(uint32_t base)
     put_field(base + below(100), '\n');
 }
 
-static void make_text(void)
+/* Answers the length of the setup's lines. */
+static size_t make_text(void)
 {
+    size_t setup_len;
+
     put_setup_lines();
+    setup_len = text_len;
     put_bytes("calls\t1\n");
     /* Long numbers, as far as every call after it still has room for short ones. */
     for (uint32_t i = 0; i < DW_CALLS; i++)
         put_call_line(INPUT - text_len >= LONG_CALL + (DW_CALLS - 1 - i) * SHORT_CALL ? 4294967000u : 0);
+    return setup_len;
 }
 
 typedef dw_text reader(const uint8_t *text, size_t text_len, uint32_t *room, size_t room_len);
@@ -450,14 +455,43 @@ static double reading_time(reader *read, uint32_t *room, dw_text *answer)
     return (now() - began) / READINGS;
 }
 
+static uint32_t our_room[DW_CALLS * DW_CALL_WIDTH], peer_room[DW_CALLS * DW_CALL_WIDTH];
+
+/* Both readers on the first len bytes, with rooms that no call was in. */
+static void compare_readers(size_t len)
+{
+    dw_text our, peer;
+
+    memset(our_room, 0xFF, sizeof our_room);
+    memset(peer_room, 0xFF, sizeof peer_room);
+    our = dw_read_with_calls(text, len, our_room, DW_CALLS * DW_CALL_WIDTH);
+    peer = peer_read_with_calls(text, len, peer_room, DW_CALLS * DW_CALL_WIDTH);
+    differs |= memcmp(&our, &peer, sizeof our) != 0 || memcmp(our_room, peer_room, sizeof our_room) != 0;
+}
+
+/* One byte changed, half of them among the setup's lines, and then the text cut off there. */
+static void compare_damaged(size_t setup_len)
+{
+    static const uint8_t bytes[] = {'\t', '\n', '0', '1', '9', 'R', 'x', 0};
+
+    for (int i = 0; i < DAMAGES; i++) {
+        size_t at = below((uint32_t)(i % 2 == 0 ? setup_len : text_len));
+        uint8_t was = text[at];
+
+        text[at] = bytes[below(sizeof bytes)];
+        compare_readers(text_len);
+        text[at] = was;
+        compare_readers(at);
+    }
+}
+
 static void measure_text(void)
 {
     static double our_times[RUNS], peer_times[RUNS];
-    static uint32_t our_room[DW_CALLS * DW_CALL_WIDTH], peer_room[DW_CALLS * DW_CALL_WIDTH];
     double our_time, peer_time;
     dw_text our, peer;
 
-    make_text();
+    compare_damaged(make_text());
     for (int i = 0; i < RUNS; i++) {
         our_times[i] = reading_time(dw_read_with_calls, our_room, &our);
         peer_times[i] = reading_time(peer_read_with_calls, peer_room, &peer);

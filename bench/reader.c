@@ -1,5 +1,5 @@
 /* A reader of texts written by hand in C, as one would write it with no proof in mind: one cursor over the bytes, the
- * same line rules, the same refusals in the same order. Nothing here is proved; the benchmark compares every answer. */
+ * same line rules, the same refusals in the same order. Nothing here is proved; the benchmark compares what both answer, on the text that it times and on some thousand damaged ones. */
 #include <string.h>
 
 #include "peer.h"
@@ -131,15 +131,25 @@ static uint32_t take_setup(cursor *c, dw_setup *s, size_t *start)
     return 0;
 }
 
-/* The code of a call's word, or 0. */
+/* The code of a call's word, or 0: its first letter tells which it can be. */
 static uint32_t take_code(cursor *c)
 {
-    static const char *const words[] = {"read", "write", "lock", "unlock", "open", "close", "testlock", "copy"};
-
-    for (uint32_t i = 0; i < sizeof words / sizeof words[0]; i++)
-        if (take_word(c, words[i], '\t'))
-            return i + 1;
-    return 0;
+    switch (c->at < c->len ? c->text[c->at] : 0) {
+    case 'r':
+        return take_word(c, "read", '\t') ? DW_READ : 0;
+    case 'w':
+        return take_word(c, "write", '\t') ? DW_WRITE : 0;
+    case 'l':
+        return take_word(c, "lock", '\t') ? DW_LOCK : 0;
+    case 'u':
+        return take_word(c, "unlock", '\t') ? DW_UNLOCK : 0;
+    case 'o':
+        return take_word(c, "open", '\t') ? DW_OPEN : 0;
+    case 't':
+        return take_word(c, "testlock", '\t') ? DW_TESTLOCK : 0;
+    default:
+        return take_word(c, "close", '\t') ? DW_CLOSE : take_word(c, "copy", '\t') ? DW_COPY : 0;
+    }
 }
 
 static int take_call(cursor *c, uint32_t *call)

@@ -13,6 +13,7 @@ find_kit() {
     kit_id=$kit/KIT-ID own=$kit/on/$(uname -m)
     tools=$own/toolchain
     [ -x "$tools/bin/clang" ] || { echo "the kit at $kit has no compiler for $(uname -m)" >&2; return 1; }
+    set_runner
 }
 
 # A folder is newer once a file in it was made or removed.
@@ -49,9 +50,11 @@ link_c() { # PROGRAM OBJECT..
 # The kit has an emulator where the machine cannot run what was linked.
 is_emulated() { [ -x "$tools/bin/qemu-x86_64" ]; }
 
-# Runs a linked program under the kit's loader and C library.
-run_c() { # PROGRAM ARGUMENT..
-    local emulator=()
-    is_emulated && emulator=("$tools/bin/qemu-x86_64")
-    "${emulator[@]}" "$tools/lib/ld-linux-x86-64.so.2" --library-path "$tools/lib" "$@"
+# What a linked program is run by: the kit's loader and C library, and its emulator where there is one.
+set_runner() {
+    runner=("$tools/lib/ld-linux-x86-64.so.2" --library-path "$tools/lib")
+    is_emulated && runner=("$tools/bin/qemu-x86_64" "${runner[@]}")
+    return 0
 }
+
+run_c() { "${runner[@]}" "$@"; } # PROGRAM ARGUMENT..

@@ -230,7 +230,8 @@ dw_listed dw_run(dw_setup setup, dw_store store, const uint32_t *calls, size_t c
  * Refusals, in this order: 15, 12, 13, 11. A refusal, and DW_NO_ROUTE, write nothing. */
 dw_answer dw_route(dw_setup setup, uint32_t a, uint32_t b, uint32_t *room, size_t room_len);
 
-/* A setup text, of any bytes. Its lines end with LF, their fields are parted by one tab, numbers are decimal:
+/* A setup text, of any bytes. Its lines end with LF, the last too, their fields are parted by one tab, numbers
+ * are decimal, with no sign, no leading zero but for 0 itself, and at most 4294967295. Its lines:
  * `store`, `1` and the counts of desks, classes, processes and files; then `access` lines with desk, class and
  * `R`, `W` or `RW`, strictly rising by desk, then class, absent pairs meaning none; then a line `process`,
  * number, desk for each process and a line `file`, number, class for each file, numbers upward from 0. A
@@ -243,7 +244,8 @@ dw_text dw_read_alone(const uint8_t *text, size_t text_len);
  * `write`, `lock`, `unlock`, `open`, `close`, `testlock`, `copy`), p, f, and for `write` and `copy` x. The
  * calls fill the front of room, four numbers each as dw_run takes them; what lies past them keeps its values.
  * Refusals: 11, with offset 0; then those of the text's lines. A refusal writes nothing. A call's own refusals
- * belong to running it. room must not overlap the text. */
+ * belong to running it. room must not overlap the text. The calls are read into a place on the stack first,
+ * some 16 KB. */
 dw_text dw_read_with_calls(const uint8_t *text, size_t text_len, uint32_t *room, size_t room_len);
 
 #ifdef __cplusplus

@@ -3,5 +3,6 @@
 #define DW_LIBC_STDIO_H
 
 int printf(const char *format, ...);
+int scanf(const char *format, ...);
 
 #endif

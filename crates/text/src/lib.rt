@@ -1,8 +1,8 @@
 // Reading texts by the line rules.
 
-pub mod calls;
+mod calls;
 pub mod reading;
-pub mod setups;
+mod setups;
 
 use rules::Setup;
 

@@ -1,0 +1,142 @@
+// What a case's check compares: what an entry answers and leaves, and what is to come out.
+use lists::CALL_WIDTH;
+use lists::ListAnswer;
+use lists::running::run;
+use routes::ROUTE_NUMBERS;
+use routes::RouteAnswer;
+use routes::report::report;
+use rules::Content;
+use rules::FILES;
+use rules::Setup;
+use rules::Store;
+ghost use mathlib.Core.Path.{_≡_};
+ghost use mathlib.Core.Bool.{true};
+ghost use mathlib.Core.Logic.{_↔_};
+ghost use Prim.Native.Nat.{_≤_};
+ghost use lib.ListN.{length, getD};
+ghost use Rattle.lists.specs.declared.ListAnswer.the-variants.{Ran};
+ghost use Rattle.routes.specs.Reports.{mostRouteNumbers, routeNumbersOf};
+ghost use Rattle.trial.specs.Trials.{untouched, roomOf, writtenInto, Answers, Leaves, Reports};
+
+// What a lent room holds before it is written to.
+pub const UNTOUCHED: u32 = 4294967295;
+
+// The front's number at a place, and past its end what the room held before.
+fn number_at(front: &[u32], i: usize) -> u32
+    ensures { λ r. ⌜ r ≡ getD (now (front .entry)) i untouched ⌝ }
+{
+    if i < front.len() { front[i] } else { UNTOUCHED }
+}
+
+// Whether the front is written into the room, and nothing past it.
+fn holds(room: &[u32], front: &[u32]) -> bool
+    ensures { λ r. ⌜ (r ≡ true) ↔ (now (room .entry) ≡ writtenInto (now (front .entry)) (roomOf (length (now (room .entry))))) ⌝ }
+{
+    if room.len() < front.len() {
+        return false;
+    }
+    let mut i = 0;
+    while i < room.len() {
+        if room[i] != number_at(front, i) {
+            return false;
+        }
+        i += 1;
+    }
+    true
+}
+
+fn has_run(answer: ListAnswer, calls: usize) -> bool
+    ensures { λ r. ⌜ (r ≡ true) ↔ (answer ≡ Ran calls) ⌝ }
+{
+    match answer {
+        ListAnswer::Ran(n) => n as usize == calls,
+        ListAnswer::Stopped(_) => false,
+    }
+}
+
+// Whether the list is run from the store and answers so.
+pub fn answers(setup: Setup, store: Store, calls: &[u32], expected: &[u32]) -> bool
+    ensures { λ r. ⌜ (r ≡ true) ↔ Answers setup store (now (calls .entry)) (now (expected .entry)) ⌝ }
+{
+    let mut room = [UNTOUCHED; ROUTE_NUMBERS];
+    let listed = run(setup, store, calls, &mut room);
+    let answer = listed.answer;
+    has_run(answer, calls.len() / CALL_WIDTH) & holds(&room, expected)
+}
+
+fn kind_of(answer: RouteAnswer) -> u32
+    ensures { λ r. ⌜ r ≡ routeNumbersOf answer .0 ⌝ }
+{
+    match answer {
+        RouteAnswer::NoRoute => 0,
+        RouteAnswer::Route(_) => 1,
+        RouteAnswer::Refused(_) => 4,
+    }
+}
+
+fn value_of(answer: RouteAnswer) -> u32
+    ensures { λ r. ⌜ r ≡ routeNumbersOf answer .1 ⌝ }
+{
+    match answer {
+        RouteAnswer::NoRoute => 0,
+        RouteAnswer::Route(calls) => calls,
+        RouteAnswer::Refused(refusal) => refusal,
+    }
+}
+
+// Whether the report with an untouched room answers so, and writes the list.
+fn reports_in(
+    setup: Setup,
+    a: u32,
+    b: u32,
+    room: &mut [u32],
+    kind: u32,
+    value: u32,
+    list: &[u32],
+) -> bool
+    requires { ⌜ now room ≡ roomOf (length (now room)) ⌝ }
+    ensures { λ r. ⌜ (r ≡ true) ↔ Reports setup a b (length (now (room .entry))) (kind, value) (now (list .entry)) ⌝ }
+{
+    let answer = report(setup, a, b, room);
+    (kind_of(answer) == kind) & (value_of(answer) == value) & holds(room, list)
+}
+
+// The same with room for n numbers.
+pub fn reports(setup: Setup, a: u32, b: u32, n: usize, kind: u32, value: u32, list: &[u32]) -> bool
+    requires { ⌜ n ≤ mostRouteNumbers ⌝ }
+    ensures { λ r. ⌜ (r ≡ true) ↔ Reports setup a b n (kind, value) (now (list .entry)) ⌝ }
+{
+    let mut room = [UNTOUCHED; ROUTE_NUMBERS];
+    reports_in(setup, a, b, &mut room[..n], kind, value, list)
+}
+
+fn same_contents(a: [Content; FILES], b: [Content; FILES]) -> bool
+    ensures { λ r. ⌜ (r ≡ true) ↔ (a ≡ b) ⌝ }
+{
+    let mut i = 0;
+    while i < FILES {
+        if a[i].figure != b[i].figure {
+            return false;
+        }
+        i += 1;
+    }
+    true
+}
+
+fn same_store(a: Store, b: Store) -> bool
+    ensures { λ r. ⌜ (r ≡ true) ↔ (a ≡ b) ⌝ }
+{
+    let left = a.contents;
+    let right = b.contents;
+    holds(&a.holders, &b.holders) & same_contents(left, right) & check::same(&a.marks, &b.marks)
+}
+
+// Whether the list leaves the store so.
+pub fn leaves(setup: Setup, store: Store, calls: &[u32], left: Store) -> bool
+    ensures { λ r. ⌜ (r ≡ true) ↔ Leaves setup store (now (calls .entry)) left ⌝ }
+{
+    let mut room = [UNTOUCHED; ROUTE_NUMBERS];
+    let listed = run(setup, store, calls, &mut room);
+    let next = listed.store;
+    same_store(next, left)
+}

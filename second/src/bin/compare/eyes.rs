@@ -1,0 +1,42 @@
+//! Whether the comparison would notice: each turn of the second program must differ from the first.
+
+use crate::case::Case;
+use crate::programs::Found;
+use second::rules::{Rules, Turn, TURNS};
+
+/// Turns that no text through the program can show.
+const BY_LIBRARY_TEXTS: [Turn; 3] =
+    [Turn::LinesBeforeRoom, Turn::CallsTailCleared, Turn::FurtherLineTaken];
+
+/// A turn, and the family in which it was first found, after so many cases in all.
+pub struct Sight {
+    pub turn: Turn,
+    pub found: Option<(&'static str, usize)>,
+    looked: usize,
+}
+
+pub struct Eyes {
+    pub sights: Vec<Sight>,
+}
+
+impl Eyes {
+    /// Without the library's readers, the turns of theirs are not asked for.
+    pub fn new(no_text: bool) -> Eyes {
+        let shown = |turn: &Turn| !no_text || !BY_LIBRARY_TEXTS.contains(turn);
+        let sight = |turn| Sight { turn, found: None, looked: 0 };
+        Eyes { sights: TURNS.into_iter().filter(shown).map(sight).collect() }
+    }
+
+    /// Looks at cases for which the first program gave what is due: a turn is found where it gives another.
+    pub fn look(&mut self, family: &'static str, cases: &[Case], found: &[Found]) {
+        for sight in self.sights.iter_mut().filter(|sight| sight.found.is_none()) {
+            let rules = Rules { turn: sight.turn };
+            let other = |(case, found): (&Case, &Found)| {
+                found.as_deref() != Some(&case.due(rules).bytes[..])
+            };
+            let place = cases.iter().zip(found).position(other);
+            sight.found = place.map(|place| (family, sight.looked + place + 1));
+            sight.looked += cases.len();
+        }
+    }
+}

@@ -1,0 +1,145 @@
+//! A reply to a case as bytes, with names for its parts, so that a difference can be told in words.
+
+use second::setup::Setup;
+use second::store::Store;
+
+/// The guards that the driver lays around each lent run.
+pub const GUARD_WORDS: usize = 9;
+const GUARD_BYTES: usize = 33;
+const GUARD_WORD: u32 = 0xD1D2_D3D4;
+const GUARD_BYTE: u8 = 0xD5;
+
+/// The part that a program prints, which is told by lines.
+pub const OUTPUT: &str = "output";
+
+const BEFORE: &str = "the guard before ";
+const AFTER: &str = "the guard after ";
+
+const WORD: usize = 4;
+const LENGTH: usize = 8;
+
+/// A part of a reply: its name, which guard of that name it is if it is one, the bytes of one entry,
+/// and how many bytes it has.
+struct Part {
+    name: &'static str,
+    guard: &'static str,
+    width: usize,
+    bytes: usize,
+}
+
+#[derive(Default)]
+pub struct Reply {
+    pub bytes: Vec<u8>,
+    parts: Vec<Part>,
+}
+
+impl Reply {
+    fn part(mut self, name: &'static str, width: usize, bytes: &[u8]) -> Reply {
+        self.parts.push(Part { name, guard: "", width, bytes: bytes.len() });
+        self.bytes.extend(bytes);
+        self
+    }
+
+    pub fn numbers(self, name: &'static str, numbers: &[u32]) -> Reply {
+        let bytes: Vec<u8> = numbers.iter().flat_map(|number| number.to_le_bytes()).collect();
+        self.part(name, WORD, &bytes)
+    }
+
+    pub fn length(self, name: &'static str, length: usize) -> Reply {
+        self.part(name, LENGTH, &(length as u64).to_le_bytes())
+    }
+
+    pub fn bytes(self, name: &'static str, bytes: &[u8]) -> Reply {
+        self.part(name, 1, bytes)
+    }
+
+    pub fn setup(self, setup: &Setup) -> Reply {
+        self.numbers("counts", &[setup.desks, setup.classes, setup.processes, setup.files])
+            .bytes("rights", &setup.rights)
+            .bytes("desk_of", &setup.desk_of)
+            .bytes("class_of", &setup.class_of)
+    }
+
+    pub fn store(self, store: &Store) -> Reply {
+        self.numbers("holders", &store.holders)
+            .numbers("figures", &store.figures)
+            .bytes("marks", &store.marks)
+    }
+
+    /// The part last added is a guard before or after the named run.
+    fn guarding(mut self, guard: &'static str) -> Reply {
+        if let Some(part) = self.parts.last_mut() {
+            part.guard = guard;
+        }
+        self
+    }
+
+    pub fn lent_words(self, name: &'static str, words: &[u32]) -> Reply {
+        let guard = [GUARD_WORD; GUARD_WORDS];
+        let before = self.numbers(name, &guard).guarding(BEFORE);
+        before.numbers(name, words).numbers(name, &guard).guarding(AFTER)
+    }
+
+    pub fn lent_store(self, store: &Store) -> Reply {
+        let guard = [GUARD_WORD; GUARD_WORDS];
+        let before = self.numbers("store", &guard).guarding(BEFORE);
+        before.store(store).numbers("store", &guard).guarding(AFTER)
+    }
+
+    pub fn lent_bytes(self, name: &'static str, bytes: &[u8]) -> Reply {
+        let guard = [GUARD_BYTE; GUARD_BYTES];
+        let before = self.bytes(name, &guard).guarding(BEFORE);
+        before.bytes(name, bytes).bytes(name, &guard).guarding(AFTER)
+    }
+
+    /// The first place where the bytes found are not those of this reply, in words.
+    pub fn difference(&self, found: Option<&[u8]>) -> String {
+        let Some(found) = found else {
+            return "the first program ended without a reply".to_string();
+        };
+        if self.parts.iter().any(|part| part.name == OUTPUT) {
+            return told_output(found, &self.bytes);
+        }
+        let mut start = 0;
+        for part in &self.parts {
+            for (place, due) in self.bytes[start..start + part.bytes].chunks(part.width).enumerate()
+            {
+                let at = start + place * part.width;
+                let given = found.get(at..at + part.width);
+                if given != Some(due) {
+                    return told(part, place, given, due);
+                }
+            }
+            start += part.bytes;
+        }
+        format!("the first program gave {} bytes, the second {}", found.len(), self.bytes.len())
+    }
+}
+
+fn told(part: &Part, place: usize, given: Option<&[u8]>, due: &[u8]) -> String {
+    let value = |bytes: &[u8]| {
+        bytes.iter().rev().fold(0u64, |value, &byte| value << 8 | u64::from(byte)).to_string()
+    };
+    let given = given.map_or("an end".to_string(), value);
+    let Part { name, guard, .. } = part;
+    format!("{guard}{name}[{place}]: the first program has {given}, the second {}", value(due))
+}
+
+/// The first line that two outputs do not share.
+fn told_output(found: &[u8], due: &[u8]) -> String {
+    let lines = |output: &[u8]| -> Vec<String> {
+        let lines = output.split_inclusive(|&byte| byte == b'\n');
+        lines.map(|line| line.escape_ascii().to_string()).collect()
+    };
+    let (found, due) = (lines(found), lines(due));
+    let place = found.iter().zip(&due).take_while(|(found, due)| found == due).count();
+    let line = |lines: &[String]| {
+        lines.get(place).map_or("no line".to_string(), |line| format!("\"{line}\""))
+    };
+    format!(
+        "line {} of the output: the first program has {}, the second {}",
+        place + 1,
+        line(&found),
+        line(&due)
+    )
+}

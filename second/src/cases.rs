@@ -1,0 +1,164 @@
+//! The twelve cases of document 01 and its program case, with the literals that stand there.
+
+use crate::call::{call_by_value, Answer, Call};
+use crate::list::run;
+use crate::print::sheets;
+use crate::refusal::Refusal;
+use crate::route::{report, Report};
+use crate::rules::{Rules, TURNS};
+use crate::setup::{accept, Setup, SetupBytes};
+use crate::store::{fresh, Store};
+
+const RULES: Rules = Rules::UNTURNED;
+const UNTOUCHED: u32 = 77;
+
+const PROGRAM: &str = "store\t1\t3\t2\t3\t2\n\
+    access\t0\t0\tW\naccess\t1\t0\tR\naccess\t1\t1\tW\naccess\t2\t1\tR\n\
+    process\t0\t0\nprocess\t1\t1\nprocess\t2\t2\nfile\t0\t0\nfile\t1\t1\ncalls\t1\n";
+const FIRST_THREE: &str = "lock\t0\t0\nwrite\t0\t0\t1\nunlock\t0\t0\n";
+const OTHER_SIX: &str =
+    "open\t1\t0\nlock\t1\t1\ncopy\t1\t0\t1\nunlock\t1\t1\nopen\t2\t1\nread\t2\t1\n";
+
+fn q() -> Setup {
+    let bytes = SetupBytes {
+        desks: 3,
+        classes: 2,
+        processes: 3,
+        files: 2,
+        rights: vec![2, 0, 1, 2, 0, 1],
+        desk_of: vec![0, 1, 2],
+        class_of: vec![0, 1],
+    };
+    accept(RULES, &bytes).unwrap()
+}
+
+fn two_desks() -> Setup {
+    let bytes = SetupBytes {
+        desks: 2,
+        classes: 1,
+        processes: 2,
+        files: 1,
+        rights: vec![1, 3],
+        desk_of: vec![0, 1],
+        class_of: vec![0],
+    };
+    accept(RULES, &bytes).unwrap()
+}
+
+/// The answers of calls run one after the other from a fresh store.
+fn answers(setup: &Setup, calls: &[[u32; 4]]) -> Vec<[u32; 2]> {
+    let mut store = fresh(RULES, setup).unwrap();
+    let mut given = Vec::new();
+    for call in calls {
+        let (answer, next) = call_by_value(RULES, setup, &store, Call::from_numbers(call));
+        given.push(answer.numbers());
+        store = next;
+    }
+    let mut room = vec![0; calls.len() * 2];
+    let (done, last) = run(RULES, setup, &Store::FRESH, &calls.concat(), &mut room);
+    assert_eq!((done, last), (Ok(calls.len() as u32), store));
+    assert_eq!(room, given.concat());
+    given
+}
+
+const NOTHING: [u32; 2] = [0, 0];
+
+#[test]
+fn case_1() {
+    assert_eq!(answers(&q(), &[[5, 1, 0, 0], [1, 1, 0, 0]]), [NOTHING, [1, 0]]);
+}
+
+#[test]
+fn case_2() {
+    let calls = [[2, 0, 0, 5], [5, 1, 0, 0], [1, 1, 0, 0]];
+    assert_eq!(answers(&q(), &calls), [NOTHING, NOTHING, [1, 0]]);
+}
+
+#[test]
+fn case_3() {
+    assert_eq!(answers(&q(), &[[3, 0, 0, 0], [7, 0, 0, 0]]), [NOTHING, NOTHING]);
+}
+
+#[test]
+fn case_4() {
+    assert_eq!(answers(&q(), &[[1, 3, 0, 0], [1, 2, 1, 0]]), [[4, 6], NOTHING]);
+}
+
+#[test]
+fn case_5() {
+    assert_eq!(answers(&q(), &[[9, 9, 0, 0]]), [[4, 5]]);
+}
+
+#[test]
+fn cases_6_and_7() {
+    let calls = [[5, 1, 0, 0], [3, 0, 0, 0], [1, 1, 0, 0], [4, 0, 0, 0], [1, 1, 0, 0]];
+    assert_eq!(answers(&q(), &calls), [NOTHING, NOTHING, NOTHING, NOTHING, [1, 0]]);
+}
+
+#[test]
+fn case_8() {
+    let calls = [[5, 0, 0, 0], [3, 1, 0, 0], [7, 1, 0, 0]];
+    assert_eq!(answers(&two_desks(), &calls), [NOTHING, NOTHING, [2, 0]]);
+    assert_eq!(answers(&two_desks(), &calls[1..]), [NOTHING, [2, 0]]);
+    assert_eq!(report(RULES, &two_desks(), 0, 1, &mut [0; 244]), Report::NoRoute);
+}
+
+#[test]
+fn case_9() {
+    let mut room = [UNTOUCHED; 250];
+    assert_eq!(report(RULES, &q(), 0, 2, &mut room), Report::Route(9));
+    let list = [
+        3, 0, 0, 0, 2, 0, 0, 1, 4, 0, 0, 0, 5, 1, 0, 0, 3, 1, 1, 0, 8, 1, 0, 1, 4, 1, 1, 0, 5, 2,
+        1, 0, 1, 2, 1, 0,
+    ];
+    assert_eq!(room[..36], list);
+    assert!(room[36..].iter().all(|&number| number == UNTOUCHED));
+}
+
+#[test]
+fn case_10() {
+    let mut room = [UNTOUCHED; 244];
+    assert_eq!(report(RULES, &q(), 2, 0, &mut room), Report::NoRoute);
+    assert_eq!(room, [UNTOUCHED; 244]);
+    assert_eq!(report(RULES, &q(), 0, 1, &mut room), Report::Route(5));
+}
+
+#[test]
+fn case_11() {
+    let mut room = [UNTOUCHED; 244];
+    let same = Report::Refused(Refusal::SameRouteDesks);
+    assert_eq!(report(RULES, &q(), 1, 1, &mut room), same);
+    let short = Report::Refused(Refusal::RoomTooShort);
+    assert_eq!(report(RULES, &q(), 0, 2, &mut room[..243]), short);
+    assert_eq!(room, [UNTOUCHED; 244]);
+}
+
+#[test]
+fn case_12() {
+    let setup = q();
+    let lock = Call { operation: 3, process: 0, file: 0, extra: 0 };
+    let (answer, store) = call_by_value(RULES, &setup, &Store::FRESH, lock);
+    assert_eq!(answer, Answer::Nothing);
+    assert_ne!(store, Store::FRESH);
+    let mut answers = [UNTOUCHED; 3];
+    assert_eq!(run(RULES, &setup, &store, &[], &mut answers), (Ok(0), store.clone()));
+    assert_eq!(answers, [UNTOUCHED; 3]);
+}
+
+#[test]
+fn program_case() {
+    let nothings: String = (0..8).map(|position| format!("{position}\tnothing\n")).collect();
+    let whole = format!("{PROGRAM}{FIRST_THREE}{OTHER_SIX}");
+    assert_eq!(sheets(RULES, whole.as_bytes()), format!("{nothings}8\tfigure\t1\n"));
+    let struck = format!("{PROGRAM}{OTHER_SIX}");
+    let output = sheets(RULES, struck.as_bytes());
+    assert_eq!(output.lines().last(), Some("5\tfigure\t0"));
+}
+
+#[test]
+fn no_turn_is_listed_twice() {
+    let mut turns = TURNS.to_vec();
+    turns.sort();
+    turns.dedup();
+    assert_eq!(turns.len(), TURNS.len());
+}

@@ -1,0 +1,17 @@
+//! The second program: a store of sheets, written from document 01 alone, to hold the first program to.
+
+#![forbid(unsafe_code)]
+
+pub mod call;
+pub mod list;
+pub mod print;
+pub mod refusal;
+pub mod route;
+pub mod rules;
+pub mod setup;
+pub mod sizes;
+pub mod store;
+pub mod text;
+
+#[cfg(test)]
+mod cases;

@@ -1,0 +1,26 @@
+//! The sizes that document 01 names.
+
+pub const DESKS: usize = 16;
+pub const CLASSES: usize = 16;
+pub const PROCESSES: usize = 64;
+pub const FILES: usize = 32;
+
+/// The most calls in a list, and in a call text.
+pub const CALLS: usize = 1024;
+
+/// Numbers that a call takes, and its answer.
+pub const CALL_WIDTH: usize = 4;
+pub const ANSWER_WIDTH: usize = 2;
+
+/// The longest list in numbers, which is also the room that a call text asks for.
+pub const LIST_NUMBERS: usize = CALLS * CALL_WIDTH;
+
+/// The room that a route asks for: 61 calls.
+pub const ROUTE_NUMBERS: usize = 244;
+
+/// Entries of the table of rights, and of open marks, whatever the counts are.
+pub const RIGHTS: usize = DESKS * CLASSES;
+pub const MARKS: usize = FILES * PROCESSES;
+
+/// The longest input that the program judges line by line.
+pub const INPUT_BYTES: usize = 32_768;

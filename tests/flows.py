@@ -1,0 +1,228 @@
+"""Holds the route report to the information flows that SETools finds: flows.py PROGRAM [SEED], from the root.
+
+Each setup has a process at every desk and a file of every class. Its rights, as the allow statements of a policy, give
+SETools the flows desk, class, desk; two steps are a link. PROGRAM is tests/routes.c, built.
+Its last line is 'N passed, M failed'.
+"""
+import collections
+import functools
+import itertools
+import os
+import random
+import subprocess
+import sys
+import tempfile
+
+import setools
+
+# The most of each thing in a setup.
+DESKS, CLASSES, PROCESSES, FILES = 16, 16, 64, 32
+R, W = 1, 2
+
+# The program is for x86-64, so that it needs the kit's loader or emulator.
+RUN = ['bash', '-c', '. bin/toolchain.sh && find_kit && run_c "$0"']
+
+# How many setups of each kind, and how many pairs there must be of no route, of one link, of two, and so on.
+MIXED, SPARSE, BENT = 100, 200, 200
+LEAST = [30000, 6000, 5000, 4000, 2500, 1500, 1000, 800, 500, 300, 150, 80, 40, 15, 5, 1]
+SEED = 1
+
+# The desks of the chain whose policy is spoilt.
+EYED = 8
+
+# All of the policy but its types and rights. A read is a flow to the desk, a write is one from it. SETools loads no
+# policy without a rule, so there is one that is no flow.
+HEAD = 'class sheet\nsid kernel\nclass sheet { read write idle }\n'
+TAIL = 'allow desk0 desk0:sheet idle;\nrole r;\nrole r types desk0;\nuser u roles r;\nsid kernel u:r:desk0\n'
+MAP = '1\nclass sheet 3\nread r 10\nwrite w 10\nidle n 1\n'
+PERMISSIONS = {R: 'read', W: 'write', R | W: '{ read write }'}
+
+# Rights go by desk and class; a pair that is not there has none.
+Setup = collections.namedtuple('Setup', 'desks classes rights desk_of class_of')
+
+
+# ---- Setups.
+
+def give(rights, desk, kind, right):
+    rights[desk, kind] = rights.get((desk, kind), 0) | right
+
+
+def owners(rng, count, most):
+    """Each number below a count, at least once, in any order."""
+    extra = rng.choices(range(count), k=rng.randint(0, most - count))
+    return rng.sample([*range(count), *extra], count + len(extra))
+
+
+def setup_of(rng, desks, classes, rights):
+    return Setup(desks, classes, rights, owners(rng, desks, PROCESSES), owners(rng, classes, FILES))
+
+
+def mixed(rng):
+    """Any counts, and from no right at all to nearly every one, more often few."""
+    desks, classes = rng.randint(2, DESKS), rng.randint(1, CLASSES)
+    rights, chance = {}, rng.random() ** 3
+    for desk, kind, right in itertools.product(range(desks), range(classes), (R, W)):
+        if rng.random() < chance:
+            give(rights, desk, kind, right)
+    return setup_of(rng, desks, classes, rights)
+
+
+def sparse(rng):
+    """Nearly all desks and classes; each desk reads one or two classes and writes one or two."""
+    desks, classes = rng.randint(DESKS - 4, DESKS), rng.randint(CLASSES - 4, CLASSES)
+    rights = {}
+    for desk, right in itertools.product(range(desks), (R, W)):
+        for kind in rng.choices(range(classes), k=rng.choice((1, 1, 1, 2))):
+            give(rights, desk, kind, right)
+    return setup_of(rng, desks, classes, rights)
+
+
+def line(rng, desks):
+    """A chain through all desks, each link by a class of its own."""
+    classes, rights = rng.randint(desks - 1, CLASSES), {}
+    order, kinds = rng.sample(range(desks), desks), rng.sample(range(classes), desks - 1)
+    for desk, after, kind in zip(order, order[1:], kinds):
+        give(rights, desk, kind, W)
+        give(rights, after, kind, R)
+    return setup_of(rng, desks, classes, rights)
+
+
+def bent(rng):
+    """A long chain, with a few rights more or less that shorten it, turn back, or break it."""
+    setup = line(rng, rng.randint(DESKS - 6, DESKS))
+    for _ in range(rng.randint(1, 5)):
+        desk, kind = rng.randrange(setup.desks), rng.randrange(setup.classes)
+        give(setup.rights, desk, kind, rng.choice((R, W)))
+    if rng.random() < 0.3:
+        del setup.rights[rng.choice(list(setup.rights))]
+    return setup
+
+
+def all_setups(rng):
+    return [line(rng, desks) for desks in range(2, DESKS + 1)] + [
+        make(rng) for make, count in ((mixed, MIXED), (sparse, SPARSE), (bent, BENT)) for _ in range(count)]
+
+
+# ---- The two answers: for each pair of desks the links, 0 for none.
+
+def reported(program, setups):
+    """What the report says of each setup, all in one run, since a program is slow to start under an emulator."""
+    text = ''
+    for s in setups:
+        rights = [s.rights.get(place, 0) for place in itertools.product(range(s.desks), range(s.classes))]
+        counts = [s.desks, s.classes, len(s.desk_of), len(s.class_of)]
+        text += ' '.join(map(str, counts + rights + s.desk_of + s.class_of)) + '\n'
+    said = subprocess.run([*RUN, program], input=text, stdout=subprocess.PIPE, text=True, check=True).stdout
+    return [dict(zip(itertools.permutations(range(s.desks), 2), map(int, numbers.split()), strict=True))
+            for s, numbers in zip(setups, said.splitlines(), strict=True)]
+
+
+def policy_of(setup):
+    types = [f'type desk{d};\n' for d in range(setup.desks)] + [f'type class{c};\n' for c in range(setup.classes)]
+    rules = [f'allow desk{d} class{c}:sheet {PERMISSIONS[right]};\n' for (d, c), right in setup.rights.items()]
+    return HEAD + ''.join(types + rules) + TAIL
+
+
+def links_of(path):
+    """Half the steps of a flow, which must go desk, class, desk and come nowhere twice."""
+    steps = list(path)
+    names = [str(steps[0].source)] + [str(step.target) for step in steps]
+    kinds = ''.join(name[0] for name in names)
+    if kinds != 'dc' * (len(steps) // 2) + 'd' or len(set(names)) < len(names):
+        raise ValueError(f'a flow that goes {names}')
+    return len(steps) // 2
+
+
+def flowing(room, setup):
+    """What SETools finds in the setup's policy."""
+    source, binary = os.path.join(room, 'policy.conf'), os.path.join(room, 'policy')
+    with open(source, 'w') as file:
+        file.write(policy_of(setup))
+    subprocess.run(['checkpolicy', '-o', binary, source], stdout=subprocess.DEVNULL, check=True)
+    analysis = setools.InfoFlowAnalysis(setools.SELinuxPolicy(binary), setools.PermissionMap(os.path.join(room, 'map')))
+    found = {}
+    for a, b in itertools.permutations(range(setup.desks), 2):
+        found[a, b] = sum(links_of(path) for path in analysis.shortest_path(f'desk{a}', f'desk{b}'))
+    return found
+
+
+def differences(program, room, setup, spoil=lambda setup: setup):
+    """The pairs that the report and SETools differ on, with both numbers; the policy can be of another setup."""
+    report, flows = reported(program, [setup])[0], flowing(room, spoil(setup))
+    return {pair: (report[pair], flows[pair]) for pair in report if report[pair] != flows[pair]}
+
+
+# ---- What is shown of a difference.
+
+def without(setup, place, right):
+    rights = {**setup.rights, place: setup.rights.get(place, 0) & ~right}
+    return setup._replace(rights={place: right for place, right in rights.items() if right})
+
+
+def cut_down(differ, setup):
+    """Drops one right after the other, as long as the two still differ."""
+    for place, right in itertools.product(setup.rights, (R, W)):
+        less = without(setup, place, right)
+        if less != setup and differ(less):
+            setup = less
+    return setup
+
+
+def show(program, room, setup):
+    least = cut_down(lambda less: differences(program, room, less), setup)
+    print(f'setools: the first setup that differs, cut down: {least.desks} desks, {least.classes} classes')
+    print(f'    desks of the processes {least.desk_of}, classes of the files {least.class_of}')
+    for (desk, kind), right in least.rights.items():
+        print(f'    desk {desk} on class {kind}: {PERMISSIONS[right]}')
+    for (a, b), (report, flow) in differences(program, room, least).items():
+        print(f'    from desk {a} to desk {b}: the report has {report} links, SETools {flow}; 0 is no route')
+
+
+# ---- The checks: each one's text, and whether it holds.
+
+def agree(program, room, setups):
+    counts, unlike = collections.Counter(), []
+    for setup, report in zip(setups, reported(program, setups), strict=True):
+        flows = flowing(room, setup)
+        counts.update(flows.values())
+        if flows != report:
+            unlike.append(setup)
+    if unlike:
+        show(program, room, unlike[0])
+    yield f'{len(setups)} setups, {sum(counts.values())} pairs of desks: {len(unlike)} setups differ', not unlike
+    few = [links for links in range(DESKS) if counts[links] < LEAST[links]]
+    text = ', '.join(f'{links}: {counts[links]}' for links in range(DESKS))
+    yield f'pairs by links, 0 for no route: {text}' + (f'; too few of {few}' if few else ''), not few
+
+
+def see(program, room, rng):
+    """A policy that is not the setup's must be seen, and be cut down to the one link that it is about."""
+    whole = line(rng, EYED)
+    (first, _), *_, (_, last) = whole.rights  # in the order of the chain, each R or W alone
+    drops = [functools.partial(without, place=place, right=right) for place, right in whole.rights.items()]
+    seen = sum(bool(differences(program, room, whole, drop)) for drop in drops)
+    yield f'with a right of a chain dropped from the policy, {seen} of {len(drops)} seen', seen == len(drops)
+    added = differences(program, room, whole, lambda s: s._replace(rights={**s.rights, (first, last): W}))
+    yield f'with a right added that shortens the chain, {len(added)} pairs seen', len(added) > 0
+    turned = differences(program, room, whole, lambda s: s._replace(rights={k: R + W - v for k, v in s.rights.items()}))
+    yield f'with reads for writes and writes for reads, {len(turned)} pairs seen', len(turned) > 0
+    least = cut_down(lambda less: differences(program, room, less, drops[0]), whole).rights
+    alone = len({kind for _, kind in least}) == 1 and sorted(least.values()) == [R, W]
+    yield f'with a right dropped, the setup is cut down to {len(least)} rights', alone
+
+
+def main(program, seed=SEED):
+    rng, verdicts = random.Random(int(seed)), []
+    print(f'setools: seed {seed}')
+    with tempfile.TemporaryDirectory() as room:
+        with open(os.path.join(room, 'map'), 'w') as file:
+            file.write(MAP)
+        for text, holds in itertools.chain(agree(program, room, all_setups(rng)), see(program, room, rng)):
+            print(f'setools: {text}' + ('' if holds else ': FAILED'))
+            verdicts.append(holds)
+    print(f'{verdicts.count(True)} passed, {verdicts.count(False)} failed')
+    return 0 if all(verdicts) else 1
+
+
+if __name__ == '__main__':
+    sys.exit(main(*sys.argv[1:]))
