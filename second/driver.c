@@ -3,8 +3,7 @@
  * A case is two 32-bit numbers, its kind and the length of its body in bytes, and the body. A reply is
  * one number, its length in bytes, and then: the struct handed back, and each lent run whole, in the
  * order of the function's parameters, with the guards that lie before and after it.
- * Built with -DNO_TEXT it knows no texts. It ends with 0 at the end of the cases, and with 1 where the
- * stream of cases is not of this form. */
+ * It ends with 0 at the end of the cases, and with 1 where the stream of cases is not of this form. */
 #include <string.h>
 
 #include "dirgewater.h"
@@ -221,7 +220,6 @@ static void do_route(void) {
     put_words(&first_words);
 }
 
-#ifndef NO_TEXT
 static void do_read_alone(void) {
     take_bytes(&first_bytes, take_number());
     dw_text text = dw_read_alone(of_bytes(&first_bytes), first_bytes.len);
@@ -239,7 +237,6 @@ static void do_read_with_calls(void) {
     put_bytes(&first_bytes);
     put_words(&first_words);
 }
-#endif
 
 static void do_case(uint32_t kind) {
     switch (kind) {
@@ -250,10 +247,8 @@ static void do_case(uint32_t kind) {
     case CALL_IN_PLACE: do_call_in_place(); break;
     case LIST: do_list(); break;
     case ROUTE: do_route(); break;
-#ifndef NO_TEXT
     case READ_ALONE: do_read_alone(); break;
     case READ_WITH_CALLS: do_read_with_calls(); break;
-#endif
     default: broken = 1;
     }
 }

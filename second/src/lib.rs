@@ -1,4 +1,4 @@
-//! The second program: a store of sheets, written from document 01 alone, to hold the first program to.
+//! The second program: a store of sheets, written from document 01, to hold the first program to.
 
 #![forbid(unsafe_code)]
 

@@ -106,7 +106,7 @@ unfolding computes
 all-come-out =
     on-q _ _ refl refl then on-q _ _ refl refl then on-q _ _ refl refl then on-q _ _ refl refl then on-q _ _ refl refl
     then on-q _ _ refl refl then on-q _ _ refl refl then on-q _ _ refl refl then on-eight _ _ refl refl
-    then on-eight _ _ refl refl then (refl, refl) then on-q _ _ refl refl then on-q _ _ refl refl then (refl, refl)
+    then on-eight _ _ refl refl then (refl, refl) then (refl, refl) then on-q _ _ refl refl then on-q _ _ refl refl then (refl, refl)
     then (refl, refl) then (refl, refl) then (refl, refl) then (on-used _ _ refl refl, in-use-stays) then tt
 
 -- so each does, by its place in the table

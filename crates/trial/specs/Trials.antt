@@ -81,6 +81,10 @@ case8a = calls setup8 freshStore (openCall 0 0 ∷ lockCall 1 0 ∷ testlockCall
 abbrev pub case8b : Case
 case8b = calls setup8 freshStore (lockCall 1 0 ∷ testlockCall 1 0 ∷ []) ((0, 0) ∷ (2, 0) ∷ []) none
 
+-- "though no link runs from desk 0"
+abbrev pub case8c : Case
+case8c = route setup8 0 1 244 (0, 0) []
+
 -- 9: "Q, route 0 to 2: 9 calls, the program case below."
 abbrev pub case9a : Case
 case9a =
@@ -183,5 +187,5 @@ EachComesOut (c ∷ rest) = ComesOut c × EachComesOut rest
 
 abbrev pub twelve : List Case
 twelve =
-    case1 ∷ case2 ∷ case3 ∷ case4a ∷ case4b ∷ case5 ∷ case6 ∷ case7 ∷ case8a ∷ case8b ∷ case9a ∷ case9b ∷ case9c
+    case1 ∷ case2 ∷ case3 ∷ case4a ∷ case4b ∷ case5 ∷ case6 ∷ case7 ∷ case8a ∷ case8b ∷ case8c ∷ case9a ∷ case9b ∷ case9c
     ∷ case10a ∷ case10b ∷ case11a ∷ case11b ∷ case12 ∷ []

@@ -112,6 +112,7 @@ fn case_8(eight: Setup, fresh: Store)
         &[0, 0, 0, 0, 2, 0],
     ));
     expect(answers(eight, fresh, &[3, 1, 0, 0, 7, 1, 0, 0], &[0, 0, 2, 0]));
+    expect(reports(eight, 0, 1, ROUTE_NUMBERS, 0, 0, &[]));
 }
 
 // The report's list, its answers, and its answers with the first three calls removed.

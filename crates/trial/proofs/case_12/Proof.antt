@@ -20,7 +20,7 @@ answers-requires c κs = search needs
 
 expect-requires : tie.Need-expect-requires
 unfolding inQuads inPairs
-expect-requires c κs = c .answers .ensures .1 (handed-on _ _ (c .before .before .before .pre) (comes-out 17 (omega arith) .0))
+expect-requires c κs = c .answers .ensures .1 (handed-on _ _ (c .before .before .before .pre) (comes-out 18 (omega arith) .0))
 
 slice-aggregate-leaves : tie.Need-slice-aggregate-leaves
 slice-aggregate-leaves c = search needs
@@ -30,7 +30,7 @@ leaves-requires c κs = search needs
 
 expect-requires-2 : tie.Need-expect-requires-2
 unfolding inQuads
-expect-requires-2 c κs = c .leaves .ensures .1 (handed-left _ (c .before .before .before .before .before .before .pre) (comes-out 17 (omega arith) .1))
+expect-requires-2 c κs = c .leaves .ensures .1 (handed-left _ (c .before .before .before .before .before .before .pre) (comes-out 18 (omega arith) .1))
 
 returns : tie.Need-returns
 returns c = search needs

@@ -4,7 +4,7 @@ use borrow.Author.Needs.{needs}
 use native.Mathlib.Omega.{arith}
 use Rattle.lists.specs.Lists.{inQuads}
 use Rattle.trial.specs.Trials.{inPairs}
-use Rattle.trial.proofs.Told.{handed-on}
+use Rattle.trial.proofs.Told.{handed-on, handed-route}
 use Rattle.trial.proofs.Twelve.{comes-out}
 use Rattle.trial.proofs.case_8.Statement.{statement}
 use Rattle.trial.proofs.case_8.Tie as tie
@@ -15,6 +15,9 @@ from1 c = c .before .before .before
 
 abbrev from2 : tie.After-answers2 → tie.Start
 from2 c = from1 (c .before .before .before .before)
+
+abbrev from3 : tie.After-reports → tie.Start
+from3 c = from2 (c .before .before .before)
 
 slice-aggregate-answers : tie.Need-slice-aggregate-answers
 slice-aggregate-answers c = search needs
@@ -42,6 +45,16 @@ expect-requires-2 : tie.Need-expect-requires-2
 unfolding inQuads inPairs
 expect-requires-2 c κs = c .answers2 .ensures .1 (handed-on _ _ (from2 c .pre) (comes-out 9 (omega arith)))
 
+slice-aggregate-reports : tie.Need-slice-aggregate-reports
+slice-aggregate-reports c = search needs
+
+reports-requires : tie.Need-reports-requires
+reports-requires c κs = search needs
+
+expect-requires-3 : tie.Need-expect-requires-3
+unfolding inQuads inPairs
+expect-requires-3 c κs = c .reports .ensures .1 (handed-route _ _ _ _ _ (from3 c .pre .0) (comes-out 10 (omega arith)))
+
 returns : tie.Need-returns
 returns c = search needs
 
@@ -57,4 +70,7 @@ case-8-spec =
     slice-aggregate-answers-4
     answers-requires-2
     expect-requires-2
+    slice-aggregate-reports
+    reports-requires
+    expect-requires-3
     returns)

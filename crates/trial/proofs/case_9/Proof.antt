@@ -16,7 +16,7 @@ reports-requires : tie.Need-reports-requires
 reports-requires c κs = search needs
 
 expect-requires : tie.Need-expect-requires
-expect-requires c κs = c .reports .ensures .1 (handed-route _ _ _ _ _ (c .before .before .pre .0) (comes-out 10 (omega arith)))
+expect-requires c κs = c .reports .ensures .1 (handed-route _ _ _ _ _ (c .before .before .pre .0) (comes-out 11 (omega arith)))
 
 slice-aggregate-answers : tie.Need-slice-aggregate-answers
 slice-aggregate-answers c = search needs
@@ -29,7 +29,7 @@ answers-requires c κs = search needs
 
 expect-requires-2 : tie.Need-expect-requires-2
 unfolding inQuads inPairs
-expect-requires-2 c κs = c .answers .ensures .1 (handed-on _ _ (c .before .before .before .before .before .before .pre) (comes-out 11 (omega arith)))
+expect-requires-2 c κs = c .answers .ensures .1 (handed-on _ _ (c .before .before .before .before .before .before .pre) (comes-out 12 (omega arith)))
 
 sub-answers : tie.Need-sub-answers
 sub-answers c = search needs
@@ -48,7 +48,7 @@ answers-requires-2 c κs = search needs
 
 expect-requires-3 : tie.Need-expect-requires-3
 unfolding inQuads inPairs
-expect-requires-3 c κs = c .answers2 .ensures .1 (handed-on _ _ (c .before .before .before .before .before .before .before .before .before .before .before .pre) (comes-out 12 (omega arith)))
+expect-requires-3 c κs = c .answers2 .ensures .1 (handed-on _ _ (c .before .before .before .before .before .before .before .before .before .before .before .pre) (comes-out 13 (omega arith)))
 
 returns : tie.Need-returns
 returns c = search needs

@@ -4,10 +4,6 @@ use crate::case::Case;
 use crate::programs::Found;
 use second::rules::{Rules, Turn, TURNS};
 
-/// Turns that no text through the program can show.
-const BY_LIBRARY_TEXTS: [Turn; 3] =
-    [Turn::LinesBeforeRoom, Turn::CallsTailCleared, Turn::FurtherLineTaken];
-
 /// A turn, and the family in which it was first found, after so many cases in all.
 pub struct Sight {
     pub turn: Turn,
@@ -20,11 +16,9 @@ pub struct Eyes {
 }
 
 impl Eyes {
-    /// Without the library's readers, the turns of theirs are not asked for.
-    pub fn new(no_text: bool) -> Eyes {
-        let shown = |turn: &Turn| !no_text || !BY_LIBRARY_TEXTS.contains(turn);
+    pub fn new() -> Eyes {
         let sight = |turn| Sight { turn, found: None, looked: 0 };
-        Eyes { sights: TURNS.into_iter().filter(shown).map(sight).collect() }
+        Eyes { sights: TURNS.into_iter().map(sight).collect() }
     }
 
     /// Looks at cases for which the first program gave what is due: a turn is found where it gives another.

@@ -20,8 +20,6 @@ pub struct Family {
     /// How many random cases a round has.
     pub count: usize,
     pub make: fn(&mut Random) -> Case,
-    /// Whether the library's readers are asked.
-    pub reads: bool,
 }
 
 pub const ROUTES: &str = "routes";
@@ -32,40 +30,25 @@ pub const FAMILIES: [Family; 10] = [
         hand_made: accepts,
         count: 5_000,
         make: |random| Case::Accept(setups::bytes(random)),
-        reads: false,
     },
-    Family { name: "fresh stores", hand_made: Vec::new, count: 2_500, make: fresh, reads: false },
-    Family { name: "judging", hand_made: Vec::new, count: 5_000, make: judge, reads: false },
-    Family { name: "calls by value", hand_made: by_value, count: 12_000, make: call, reads: false },
-    Family {
-        name: "calls in place",
-        hand_made: in_place,
-        count: 12_000,
-        make: call_in_place,
-        reads: false,
-    },
-    Family { name: "lists", hand_made: walk_as_list, count: 5_000, make: list, reads: false },
-    Family { name: ROUTES, hand_made: routes_of_q, count: 7_000, make: routes::case, reads: false },
-    Family {
-        name: "setup texts read alone",
-        hand_made: alone_by_hand,
-        count: 2_000,
-        make: alone,
-        reads: true,
-    },
+    Family { name: "fresh stores", hand_made: Vec::new, count: 2_500, make: fresh },
+    Family { name: "judging", hand_made: Vec::new, count: 5_000, make: judge },
+    Family { name: "calls by value", hand_made: by_value, count: 12_000, make: call },
+    Family { name: "calls in place", hand_made: in_place, count: 12_000, make: call_in_place },
+    Family { name: "lists", hand_made: walk_as_list, count: 5_000, make: list },
+    Family { name: ROUTES, hand_made: routes_of_q, count: 7_000, make: routes::case },
+    Family { name: "setup texts read alone", hand_made: alone_by_hand, count: 2_000, make: alone },
     Family {
         name: "texts read with calls",
         hand_made: with_calls_by_hand,
         count: 2_000,
         make: with_calls,
-        reads: true,
     },
     Family {
         name: "texts through sheets",
         hand_made: sheets_by_hand,
         count: 400,
         make: |random| Case::Sheets(texts::any(random, true)),
-        reads: false,
     },
 ];
 
@@ -188,7 +171,7 @@ fn alone_by_hand() -> Vec<Case> {
     texts::hand_made(false).into_iter().map(Case::ReadAlone).collect()
 }
 
-/// Each text twice: with room and a tail, and with room that is too short.
+/// Each text with room and a tail, and some of them with room that is too short.
 fn with_calls_by_hand() -> Vec<Case> {
     const TAIL: usize = 8;
     let mut random = Random::new(0, 0);

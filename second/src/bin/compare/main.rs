@@ -62,9 +62,6 @@ fn main() -> ExitCode {
 fn summary(trial: &Trial) -> Vec<(String, bool)> {
     trial.counts.tables().iter().for_each(|table| table.print());
     trial.tell_contradiction();
-    if trial.options.no_text {
-        println!("\nskipped: the library's readers of texts, and the turns that only they show");
-    }
     let mut checks = trial.checks();
     checks.extend(trial.count_checks());
     if trial.options.turn == Turn::None {

@@ -4,14 +4,13 @@ use second::rules::{Turn, TURNS};
 use std::time::{SystemTime, UNIX_EPOCH};
 
 pub const USAGE: &str = "compare --driver COMMAND --sheets COMMAND [--seed N] [--minutes N] \
-    [--threads N] [--no-text] [--turn NAME]
+    [--threads N] [--turn NAME]
   A command is one argument, its words parted by blanks, or by line ends where it has any.
   --driver   runs driver.c, linked with the library of the first program
   --sheets   runs the first program's program over texts
   --seed     repeats a run; else the clock gives one
   --minutes  goes on with new cases for so long
   --threads  how many texts go through the program at a time, 2 if not given
-  --no-text  for a driver built with -DNO_TEXT
   --turn     turns a rule of the second program, to see that it is found and told";
 
 pub struct Options {
@@ -20,7 +19,6 @@ pub struct Options {
     pub seed: u64,
     pub minutes: u64,
     pub threads: usize,
-    pub no_text: bool,
     pub turn: Turn,
 }
 
@@ -48,15 +46,10 @@ impl Options {
             seed: now as u64 % 1_000_000_000,
             minutes: 0,
             threads: 2,
-            no_text: false,
             turn: Turn::None,
         };
         let mut arguments = arguments;
         while let Some(name) = arguments.next() {
-            if name == "--no-text" {
-                options.no_text = true;
-                continue;
-            }
             let value = arguments.next().ok_or_else(|| format!("{name} asks for a value"))?;
             options.take(&name, &value)?;
         }

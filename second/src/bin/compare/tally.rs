@@ -54,11 +54,6 @@ impl Table {
         rows.for_each(|row| row.cells[column].met += times);
     }
 
-    /// No least is asked for in a column.
-    pub fn waive(&mut self, column: usize) {
-        self.rows.iter_mut().for_each(|row| row.cells[column].least = None);
-    }
-
     /// Whether each count reached its least.
     pub fn reached(&self) -> bool {
         let cells = self.rows.iter().flat_map(|row| &row.cells);

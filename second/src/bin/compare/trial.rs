@@ -2,10 +2,9 @@
 
 use crate::brute::{list_case, struck, Brute};
 use crate::case::Case;
-use crate::count_texts::{ALONE, WITH_CALLS};
 use crate::counts::{Counts, SHOWN_TOTAL};
 use crate::eyes::Eyes;
-use crate::families::{Family, FAMILIES, ROUTES};
+use crate::families::{Family, FAMILIES};
 use crate::least::Cutter;
 use crate::options::Options;
 use crate::programs::{Found, Programs};
@@ -49,11 +48,6 @@ pub struct Trial {
 
 impl Trial {
     pub fn new(options: Options) -> Trial {
-        let mut counts = Counts::new();
-        if options.no_text {
-            counts.texts.waive(WITH_CALLS);
-            counts.texts.waive(ALONE);
-        }
         Trial {
             programs: Programs {
                 driver: options.driver.clone(),
@@ -61,9 +55,9 @@ impl Trial {
                 threads: options.threads,
             },
             rules: Rules { turn: options.turn },
-            counts,
+            counts: Counts::new(),
             results: Vec::new(),
-            eyes: Eyes::new(options.no_text),
+            eyes: Eyes::new(),
             brute: Brute::default(),
             unshown: 0,
             options,
@@ -73,9 +67,6 @@ impl Trial {
     /// One round: every family, and the search. The first has the cases made by hand too.
     pub fn round(&mut self, round: u64) {
         for (place, family) in FAMILIES.iter().enumerate() {
-            if family.reads && self.options.no_text {
-                continue;
-            }
             let stream = round * 100 + place as u64;
             self.family(family, Random::new(self.options.seed, stream), round == 0);
         }
@@ -86,19 +77,22 @@ impl Trial {
         let mut random = random;
         if first {
             for cases in (family.hand_made)().chunks(BATCH) {
-                self.put(family.name, cases);
+                self.put_and_run(family.name, &mut random, cases);
             }
         }
         let mut left = family.count;
         while left > 0 {
             let count = left.min(BATCH);
             let cases: Vec<Case> = (0..count).map(|_| (family.make)(&mut random)).collect();
-            let found = self.put(family.name, &cases);
-            if family.name == ROUTES {
-                self.run_written(&mut random, &cases, &found);
-            }
+            self.put_and_run(family.name, &mut random, &cases);
             left -= count;
         }
+    }
+
+    /// Puts a batch, and runs the list of each report in it.
+    fn put_and_run(&mut self, family: &'static str, random: &mut Random, cases: &[Case]) {
+        let found = self.put(family, cases);
+        self.run_written(random, cases, &found);
     }
 
     /// Puts a batch of cases to both programs, and hands back what the first gave.
@@ -179,7 +173,7 @@ impl Trial {
         }
         let share = std::mem::take(&mut self.brute.share);
         for cases in share.chunks(BATCH) {
-            self.put(SEARCHED, cases);
+            self.put_and_run(SEARCHED, &mut random, cases);
         }
     }
 
