@@ -1,8 +1,10 @@
 -- `calling::entry::run_one` meets its contract: a turn on the two sheets, and the one sheet put back.
 -- Assumes nothing.
+use Prim.Native.Nat.{_<_}
 use mathlib.Core.Path.{_≡_}
 use native.Mathlib.Omega.{arith}
 use borrow.Author.Needs.{needs}
+use Rattle.rules.specs.Sizes.{mostProcesses, mostFiles}
 use Rattle.rules.specs.Setups.{mayRead, mayWrite}
 use Rattle.rules.specs.Calls.{looksAt, turnOf}
 use Rattle.rules.proofs.Turns.{turn-answer, turn-put}
@@ -81,40 +83,28 @@ look-on-requires c κs = search needs
 step-requires : tie.Need-step-requires
 step-requires c κs = c .before .before .before .before .before .before .before .before .before .before .before .before .before .before .before .before .before .before .before .pre .0
 
-mul-next : tie.Need-mul-next
-mul-next c =
+-- the process, and the file that the call can change, exist among the most of their kinds
+inside : (c : tie.After-content) → (c .before .before .before .before .before .before .before .before .before .before .before .before .before .before .before .before .before .before .before .before .before .process-of .result < mostProcesses) × (c .before .before .before .before .before .before .before .before .before .before .before .before .before .before .before .before .before .before .before .changeable .result < mostFiles)
+inside c =
     let p = c .before .before .before .before .before .before .before .before .before .before .before .before .before .before .before .before .before .before .before .before .before .process-of .ensures in
     let x = c .before .before .before .before .before .before .before .before .before .before .before .before .before .before .before .before .before .before .before .changeable .ensures in
     let r = c .before .before .before .before .before .before .before .before .before .before .before .before .before .before .before .before .before .before .before .before .before .before .pre in
-    omega arith
+    (omega arith, omega arith)
+
+mul-next : tie.Need-mul-next
+mul-next c = let i = inside c in omega arith
 
 element-write-next : tie.Need-element-write-next
-element-write-next c =
-    let p = c .before .before .before .before .before .before .before .before .before .before .before .before .before .before .before .before .before .before .before .before .before .process-of .ensures in
-    let x = c .before .before .before .before .before .before .before .before .before .before .before .before .before .before .before .before .before .before .before .changeable .ensures in
-    let r = c .before .before .before .before .before .before .before .before .before .before .before .before .before .before .before .before .before .before .before .before .before .before .pre in
-    omega arith
+element-write-next c = let i = inside c in omega arith
 
 mul-content : tie.Need-mul-content
-mul-content c =
-    let p = c .before .before .before .before .before .before .before .before .before .before .before .before .before .before .before .before .before .before .before .before .before .process-of .ensures in
-    let x = c .before .before .before .before .before .before .before .before .before .before .before .before .before .before .before .before .before .before .before .changeable .ensures in
-    let r = c .before .before .before .before .before .before .before .before .before .before .before .before .before .before .before .before .before .before .before .before .before .before .pre in
-    omega arith
+mul-content c = let i = inside c in omega arith
 
 element-set-from-content : tie.Need-element-set-from-content
-element-set-from-content c =
-    let p = c .before .before .before .before .before .before .before .before .before .before .before .before .before .before .before .before .before .before .before .before .before .process-of .ensures in
-    let x = c .before .before .before .before .before .before .before .before .before .before .before .before .before .before .before .before .before .before .before .changeable .ensures in
-    let r = c .before .before .before .before .before .before .before .before .before .before .before .before .before .before .before .before .before .before .before .before .before .before .pre in
-    omega arith
+element-set-from-content c = let i = inside c in omega arith
 
 element-write-next-2 : tie.Need-element-write-next-2
-element-write-next-2 c =
-    let p = c .before .before .before .before .before .before .before .before .before .before .before .before .before .before .before .before .before .before .before .before .before .process-of .ensures in
-    let x = c .before .before .before .before .before .before .before .before .before .before .before .before .before .before .before .before .before .before .before .changeable .ensures in
-    let r = c .before .before .before .before .before .before .before .before .before .before .before .before .before .before .before .before .before .before .before .before .before .before .pre in
-    omega arith
+element-write-next-2 c = let i = inside c in omega arith
 
 -- the turn is that of the call on what it looks at in the store
 turned : (c : tie.After-step) → let a = c .before .before .before .before .before .before .before .before .before .before .before .before .before .before .before .before .before .before .before .before .args in c .step .result ≡ turnOf (a .call) (looksAt (a .t1) (a .store) (a .call))

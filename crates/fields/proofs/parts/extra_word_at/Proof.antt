@@ -17,9 +17,8 @@ number-requires c κs = search needs
 
 returns : tie.Need-returns
 returns c =
-    let b = c .before in
     retold (c .number .result .next) (c .number .result .value) (c .number .ensures)
-    (named-here _ _ _ _ _ _ _ (b .before .word-at .ensures) (b .if1 .taken))
+    (named-here _ _ _ _ _ _ _ (c .before .before .word-at .ensures) (c .before .if1 .taken))
 
 slice-aggregate-word-at-2 : tie.Need-slice-aggregate-word-at-2
 slice-aggregate-word-at-2 c = search needs
@@ -32,10 +31,9 @@ number-requires-2 c κs = search needs
 
 returns-2 : tie.Need-returns-2
 returns-2 c =
-    let b = c .before in
     retold (c .number2 .result .next) (c .number2 .result .value) (c .number2 .ensures)
-    (let one = b .before .before in
-    named-last _ _ _ _ _ (b .word-at2 .result) (b .word-at2 .ensures) ∙ named-later _ _ _ _ _ _ _ (one .before .word-at .ensures) (one .if1 .left))
+    (let one = c .before .before .before in
+    named-last _ _ _ _ _ (c .before .word-at2 .result) (c .before .word-at2 .ensures) ∙ named-later _ _ _ _ _ _ _ (one .before .word-at .ensures) (one .if1 .left))
 
 pub extra-word-at-spec : {M : Type 1} → statement M
 extra-word-at-spec =

@@ -41,9 +41,8 @@ number-requires c κs = search needs
 
 returns : tie.Need-returns
 returns c =
-    let b = c .before in
     retold (c .number .result .next) (c .number .result .value) (c .number .ensures)
-    (named-here _ _ _ _ _ _ _ (b .before .word-at .ensures) (b .if1 .taken))
+    (named-here _ _ _ _ _ _ _ (c .before .before .word-at .ensures) (c .before .if1 .taken))
 
 slice-aggregate-word-at-2 : tie.Need-slice-aggregate-word-at-2
 slice-aggregate-word-at-2 c = search needs
@@ -56,9 +55,8 @@ number-requires-2 c κs = search needs
 
 returns-2 : tie.Need-returns-2
 returns-2 c =
-    let b = c .before in
     retold (c .number2 .result .next) (c .number2 .result .value) (c .number2 .ensures)
-    (named-here _ _ _ _ _ _ _ (b .before .word-at2 .ensures) (b .if2 .taken) ∙ past-1 (b .before .before .before))
+    (named-here _ _ _ _ _ _ _ (c .before .before .word-at2 .ensures) (c .before .if2 .taken) ∙ past-1 (c .before .before .before .before))
 
 slice-aggregate-word-at-3 : tie.Need-slice-aggregate-word-at-3
 slice-aggregate-word-at-3 c = search needs
@@ -71,9 +69,8 @@ number-requires-3 c κs = search needs
 
 returns-3 : tie.Need-returns-3
 returns-3 c =
-    let b = c .before in
     retold (c .number3 .result .next) (c .number3 .result .value) (c .number3 .ensures)
-    (named-here _ _ _ _ _ _ _ (b .before .word-at3 .ensures) (b .if3 .taken) ∙ past-2 (b .before .before .before))
+    (named-here _ _ _ _ _ _ _ (c .before .before .word-at3 .ensures) (c .before .if3 .taken) ∙ past-2 (c .before .before .before .before))
 
 slice-aggregate-word-at-4 : tie.Need-slice-aggregate-word-at-4
 slice-aggregate-word-at-4 c = search needs
@@ -86,9 +83,8 @@ number-requires-4 c κs = search needs
 
 returns-4 : tie.Need-returns-4
 returns-4 c =
-    let b = c .before in
     retold (c .number4 .result .next) (c .number4 .result .value) (c .number4 .ensures)
-    (named-here _ _ _ _ _ _ _ (b .before .word-at4 .ensures) (b .if4 .taken) ∙ past-3 (b .before .before .before))
+    (named-here _ _ _ _ _ _ _ (c .before .before .word-at4 .ensures) (c .before .if4 .taken) ∙ past-3 (c .before .before .before .before))
 
 slice-aggregate-word-at-5 : tie.Need-slice-aggregate-word-at-5
 slice-aggregate-word-at-5 c = search needs
@@ -101,9 +97,8 @@ number-requires-5 c κs = search needs
 
 returns-5 : tie.Need-returns-5
 returns-5 c =
-    let b = c .before in
     retold (c .number5 .result .next) (c .number5 .result .value) (c .number5 .ensures)
-    (named-here _ _ _ _ _ _ _ (b .before .word-at5 .ensures) (b .if5 .taken) ∙ past-4 (b .before .before .before))
+    (named-here _ _ _ _ _ _ _ (c .before .before .word-at5 .ensures) (c .before .if5 .taken) ∙ past-4 (c .before .before .before .before))
 
 slice-aggregate-word-at-6 : tie.Need-slice-aggregate-word-at-6
 slice-aggregate-word-at-6 c = search needs
@@ -116,9 +111,8 @@ number-requires-6 c κs = search needs
 
 returns-6 : tie.Need-returns-6
 returns-6 c =
-    let b = c .before in
     retold (c .number6 .result .next) (c .number6 .result .value) (c .number6 .ensures)
-    (named-last _ _ _ _ _ (b .word-at6 .result) (b .word-at6 .ensures) ∙ past-5 (b .before .before))
+    (named-last _ _ _ _ _ (c .before .word-at6 .result) (c .before .word-at6 .ensures) ∙ past-5 (c .before .before .before))
 
 pub plain-word-at-spec : {M : Type 1} → statement M
 plain-word-at-spec =

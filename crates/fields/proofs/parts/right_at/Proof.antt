@@ -20,9 +20,8 @@ number-requires c κs = search needs
 
 returns : tie.Need-returns
 returns c =
-    let b = c .before in
     retold (c .number .result .next) (c .number .result .value) (c .number .ensures)
-    (named-here _ _ _ _ _ _ _ (b .before .word-at .ensures) (b .if1 .taken))
+    (named-here _ _ _ _ _ _ _ (c .before .before .word-at .ensures) (c .before .if1 .taken))
 
 slice-aggregate-word-at-2 : tie.Need-slice-aggregate-word-at-2
 slice-aggregate-word-at-2 c = search needs
@@ -38,10 +37,9 @@ number-requires-2 c κs = search needs
 
 returns-2 : tie.Need-returns-2
 returns-2 c =
-    let b = c .before in
     retold (c .number2 .result .next) (c .number2 .result .value) (c .number2 .ensures)
-    (let one = b .before .before .before in
-    named-here _ _ _ _ _ _ _ (b .before .word-at2 .ensures) (b .if2 .taken) ∙ named-later _ _ _ _ _ _ _ (one .before .word-at .ensures) (one .if1 .left))
+    (let one = c .before .before .before .before in
+    named-here _ _ _ _ _ _ _ (c .before .before .word-at2 .ensures) (c .before .if2 .taken) ∙ named-later _ _ _ _ _ _ _ (one .before .word-at .ensures) (one .if1 .left))
 
 slice-aggregate-word-at-3 : tie.Need-slice-aggregate-word-at-3
 slice-aggregate-word-at-3 c = search needs
@@ -57,11 +55,10 @@ number-requires-3 c κs = search needs
 
 returns-3 : tie.Need-returns-3
 returns-3 c =
-    let b = c .before in
     retold (c .number3 .result .next) (c .number3 .result .value) (c .number3 .ensures)
-    (let two = b .before .before in
+    (let two = c .before .before .before in
     let one = two .before .before .before in
-    named-last _ _ _ _ _ (b .word-at3 .result) (b .word-at3 .ensures) ∙ named-later _ _ _ _ _ _ _ (two .before .word-at2 .ensures) (two .if2 .left)
+    named-last _ _ _ _ _ (c .before .word-at3 .result) (c .before .word-at3 .ensures) ∙ named-later _ _ _ _ _ _ _ (two .before .word-at2 .ensures) (two .if2 .left)
     ∙ named-later _ _ _ _ _ _ _ (one .before .word-at .ensures) (one .if1 .left))
 
 pub right-at-spec : {M : Type 1} → statement M
