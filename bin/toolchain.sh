@@ -2,7 +2,7 @@
 # The kit does all of it, with its own C library, on x86-64 as on Arm, so that no other compiler is asked for. The
 # library is for x86-64; on another machine the kit's emulator runs what was linked.
 
-library=target/staticlib/libhost.a
+library=target/staticlib/libdirgewater.a
 
 # Sets rt, and the kit's folders; it may stand on no PATH, as in a fresh runner.
 find_kit() {
@@ -27,7 +27,7 @@ need() { # BUILT COMMAND..
     touch "$1" # where nothing of it had changed rt leaves it as old as it was
 }
 
-need_library() { need "$library" staticlib host; }
+need_library() { need "$library" staticlib dirgewater; }
 need_program() { need "target/bin/$1" check "$1"; } # NAME
 
 # Whether the library defines a function.

@@ -1,8 +1,8 @@
 /* A host in C: accepts a setup, keeps one store in its memory, and lends it for nine calls. They carry a figure from desk 0
  * over desk 1 to desk 2, which has no right on the file that desk 0 writes. Then it asks for the routes between the desks.
  *
- * bin/host-example builds and runs it. With a C compiler on x86-64 Linux, after `rt staticlib host`:
- *     cc -Iinclude examples/host.c target/staticlib/libhost.a -o host && ./host
+ * bin/host-example builds and runs it. With a C compiler on x86-64 Linux, after `rt staticlib dirgewater`:
+ *     cc -Iinclude examples/host.c target/staticlib/libdirgewater.a -o host && ./host
  */
 #include <stdio.h>
 

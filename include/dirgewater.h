@@ -1,4 +1,4 @@
-/* Dirgewater for C: a proved store of sheets, as the static library libhost.a.
+/* Dirgewater for C: a proved store of sheets, as the static library libdirgewater.a.
  *
  * A setup fixes desks, classes, processes, files, and what each desk may do with each class. A store
  * holds, for each file, who has it locked, who has it open, and one figure. A host accepts a setup,

@@ -4,11 +4,10 @@ use Prim.Native.Nat.{ℕ, _-_, _*_}
 use mathlib.Core.Path.{_≡_, refl}
 use mathlib.Core.Bool.{Bool, true}
 use mathlib.Core.List.{List, [], _∷_, _++_}
-use Rattle.rules.specs.Sizes.{table}
+use Rattle.rules.specs.Sizes.{table, mostCalls}
 use Rattle.rules.specs.Setups.{withinSizes, setupBytes, givenRight, setupFrom}
-use Rattle.rules.specs.Calls.{Numbers, numbers}
+use Rattle.rules.specs.Calls.{Numbers, numbers, callWidth}
 use Rattle.rules.specs.declared.Setup.{Setup}
-use Rattle.lists.specs.Lists.{mostCalls, callWidth}
 use Rattle.lines.specs.Bytes.{same}
 use Rattle.lines.specs.Lines.{pieces, linesFrom, linesOf, fieldsOf}
 use Rattle.lines.specs.Decimals.{isNumber, numberOf}

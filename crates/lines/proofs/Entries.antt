@@ -8,11 +8,11 @@ use native.Mathlib.Omega.{arith}
 use borrow.Author.Tests.{ltb-true, ltb-false, leb-false, lt-ltb, le-ltb}
 use lib.Dec.{ltb}
 use lib.ListN.{length, length-append}
+use Rattle.rules.specs.Sizes.{mostCalls}
 use Rattle.rules.specs.Setups.{accepted, blankSetup}
-use Rattle.rules.specs.Calls.{Numbers, Is32}
+use Rattle.rules.specs.Calls.{Numbers, Is32, callWidth}
 use Rattle.rules.proofs.Lists.{by-test, cond-holds}
 use Rattle.rules.proofs.Refusals.{unmet-iff}
-use Rattle.lists.specs.Lists.{mostCalls, callWidth}
 use Rattle.lines.specs.Lines.{Line, fieldsOf}
 use Rattle.lines.specs.Shapes.{headerLine, accessLine, processLine, fileLine, callsLine, callLine}
 use Rattle.lines.specs.Readings.{Due, headerDue, accessDue, processDue, fileDue, callsDue, callDue, SoFar, atStart, Reached, sound, refused, headerOrder, afterHeader, accessOrder, afterAccess, processOrder, afterProcess, fileOrder, afterFile, afterCalls, callOrder, afterCall, judgeDue, judgeFurther, judgeProcess, Text, alone, withCalls, startsAccess, judge, complete, readText}

@@ -8,10 +8,10 @@ use mathlib.Core.List.{List, [], _∷_, _++_}
 use mathlib.Core.Option.{Option, some, none}
 use borrow.Author.Tests.{le-leb}
 use lib.ListN.{length}
+use Rattle.rules.specs.Sizes.{mostCalls}
 use Rattle.rules.specs.Calls.{Numbers}
 use Rattle.rules.specs.Refusals.{Refusal, firstOf}
 use Rattle.rules.proofs.Lists.{by-test, cond-holds}
-use Rattle.lists.specs.Lists.{mostCalls}
 use Rattle.lines.specs.Lines.{Line, linesOf, fieldsOf}
 use Rattle.lines.specs.Shapes.{headerLine, accessLine, processLine, fileLine, callsLine, callLine}
 use Rattle.lines.specs.Readings.{Due, headerDue, accessDue, processDue, fileDue, callsDue, callDue, SoFar, atStart, Reached, sound, refused, breaksRules, judged, headerOrder, afterHeader, accessOrder, afterAccess, processOrder, afterProcess, fileOrder, afterFile, afterCalls, callOrder, afterCall, Text, alone, withCalls, startsAccess, judgeFurther, judgeDue, judge, judgeNext, judgeAll, complete, atEnd, readText}

@@ -3,11 +3,11 @@ use Prim.Native.Nat.{ℕ, _*_}
 use mathlib.Core.List.{List, [], _∷_, _++_}
 use lib.Dec.{ltb}
 use lib.ListN.{length, drop}
+use Rattle.rules.specs.Sizes.{mostCalls}
 use Rattle.rules.specs.Setups.{setupFrom, blankSetup}
-use Rattle.rules.specs.Calls.{Numbers}
+use Rattle.rules.specs.Calls.{Numbers, callWidth, inQuads}
 use Rattle.rules.specs.Refusals.{Refusal, _gives_, firstOf}
 use Rattle.rules.specs.Entries.{unless}
-use Rattle.lists.specs.Lists.{mostCalls, callWidth, inQuads}
 use Rattle.lines.specs.Readings.{Reached, sound, refused, alone, withCalls, readText, bytesRead}
 use Rattle.lines.specs.declared.Reading.{Reading}
 use Rattle.lines.specs.declared.Reading.the-variants.{Read, Refused}

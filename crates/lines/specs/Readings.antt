@@ -5,12 +5,11 @@ use mathlib.Core.List.{List, [], _∷_, _++_}
 use mathlib.Core.Option.{Option, some, none}
 use lib.Dec.{ltb, leb, eqb}
 use lib.ListN.{length}
-use Rattle.rules.specs.Sizes.{table}
+use Rattle.rules.specs.Sizes.{table, mostCalls}
 use Rattle.rules.specs.Setups.{SetupBytes, setupBytes, withinSizes}
 use Rattle.rules.specs.Calls.{Numbers}
 use Rattle.rules.specs.Refusals.{Refusal, _gives_, firstOf}
 use Rattle.rules.specs.Entries.{unless}
-use Rattle.lists.specs.Lists.{mostCalls}
 use Rattle.lines.specs.Bytes.{wordAccess, same}
 use Rattle.lines.specs.Lines.{Line, linesOf, fieldsOf}
 use Rattle.lines.specs.Shapes.{Header, Access, Process, File, headerLine, accessLine, processLine, fileLine, callsLine, callLine}

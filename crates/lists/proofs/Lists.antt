@@ -10,10 +10,10 @@ use borrow.Author.Tests.{ltb-false, eqb-true, not-false}
 use lib.ListN.{length, drop}
 use Rattle.secrecy.specs.Machine.{after, answersWhere}
 use Rattle.secrecy.proofs.Runs.{after-append, answers-append}
-use Rattle.rules.specs.Sizes.{table}
+use Rattle.rules.specs.Sizes.{table, mostCalls}
 use Rattle.rules.specs.Setups.{accepted}
 use Rattle.rules.specs.Stores.{fits}
-use Rattle.rules.specs.Calls.{Numbers}
+use Rattle.rules.specs.Calls.{Numbers, callWidth, callsIn, callsOf}
 use Rattle.rules.specs.Refusals.{firstOf, refusal15, refusal16, judgeRefusal}
 use Rattle.rules.specs.Entries.{unless, called, ran}
 use Rattle.rules.specs.declared.Setup.{Setup}
@@ -23,7 +23,7 @@ use Rattle.rules.proofs.Refusals.{unmet-iff, firstOf-append, judgeRefusal-iff}
 use Rattle.rules.proofs.Entries.{called-judged, ran-fits}
 use Rattle.rules.proofs.Told.{unless-refused}
 use Rattle.views.specs.Machine.{machine}
-use Rattle.lists.specs.Lists.{mostCalls, callWidth, answerWidth, callsIn, callsOf, endOf, answersOver, inNumbers, refusal10, refusal11, listOrder, listRefusal, listed, roomAfter}
+use Rattle.lists.specs.Lists.{answerWidth, endOf, answersOver, inNumbers, refusal10, refusal11, listOrder, listRefusal, listed, roomAfter}
 use Rattle.lists.specs.declared.ListAnswer.the-variants.{Ran, Stopped}
 
 -- a list that is not refused has an accepted setup, a fitting store, four numbers a call and room for the answers

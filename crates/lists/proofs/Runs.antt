@@ -11,7 +11,7 @@ use lib.ListN.{length, set, drop, length-set}
 use Rattle.secrecy.specs.Machine.{after, answersWhere}
 use Rattle.secrecy.proofs.Runs.{after-append, answers-append, one-answer-each}
 use Rattle.rules.specs.Sizes.{table}
-use Rattle.rules.specs.Calls.{Numbers}
+use Rattle.rules.specs.Calls.{Numbers, callsIn, numbersAt, callsOf}
 use Rattle.rules.specs.Answers.{kindOf, valueOf}
 use Rattle.rules.specs.Entries.{ran}
 use Rattle.rules.specs.declared.Setup.{Setup}
@@ -19,7 +19,7 @@ use Rattle.rules.specs.declared.Store.{Store}
 use Rattle.rules.specs.declared.Answer.{Answer}
 use Rattle.rules.proofs.Sizes.{length-table}
 use Rattle.views.specs.Machine.{machine}
-use Rattle.lists.specs.Lists.{answerWidth, callsIn, numbersAt, callsOf, endOf, answersOver, inNumbers}
+use Rattle.lists.specs.Lists.{answerWidth, endOf, answersOver, inNumbers}
 use Rattle.lists.proofs.Numbers.{table-more, inNumbers-append, inNumbers-length, set-two}
 
 module _ (s : Setup) (m : Store) (acts : List Numbers) (n : Numbers) where

@@ -1,12 +1,12 @@
 -- 01, "Lists and answers": a list of calls, its run and its answers, and the refusals of a list as a whole.
-use Prim.Native.Nat.{ℕ, _+_, _*_, _/_, _%_}
+use Prim.Native.Nat.{ℕ, _*_, _/_, _%_}
 use mathlib.Core.Bool.{not, _||_}
 use mathlib.Core.List.{List, [], _∷_, _++_}
 use lib.Dec.{ltb, eqb}
-use lib.ListN.{length, getD, drop}
+use lib.ListN.{length, drop}
 use Rattle.secrecy.specs.Machine.{after, allAnswers}
-use Rattle.rules.specs.Sizes.{table}
-use Rattle.rules.specs.Calls.{Numbers, numbers}
+use Rattle.rules.specs.Sizes.{mostCalls}
+use Rattle.rules.specs.Calls.{Numbers, callWidth, callsIn, callsOf}
 use Rattle.rules.specs.Answers.{kindOf, valueOf}
 use Rattle.rules.specs.Refusals.{Refusal, _gives_, firstOf, refusal15, refusal16}
 use Rattle.rules.specs.Entries.{unless}
@@ -18,32 +18,9 @@ use Rattle.lists.specs.declared.ListAnswer.{ListAnswer}
 use Rattle.lists.specs.declared.ListAnswer.the-variants.{Ran, Stopped}
 use Rattle.lists.specs.declared.Listed.{Listed}
 
--- the last row of "Sizes": calls in a list, from 0 to
-abbrev pub mostCalls : ℕ
-mostCalls = 1024
-
--- "A list is a lent run of 32-bit numbers, four a call. Each answer is two numbers"
-abbrev pub callWidth : ℕ
-callWidth = 4
-
+-- "Each answer is two numbers"
 abbrev pub answerWidth : ℕ
 answerWidth = 2
-
-abbrev pub callsIn : List ℕ → ℕ
-callsIn list = length list / callWidth
-
-abbrev pub numbersAt : List ℕ → ℕ → Numbers
-numbersAt list i =
-    let at = i * callWidth in
-    numbers (getD list at 0) (getD list (at + 1) 0) (getD list (at + 2) 0) (getD list (at + 3) 0)
-
-unfoldable pub callsOf : List ℕ → List Numbers
-callsOf list = table (callsIn list) (numbersAt list)
-
--- calls as numbers, "four a call"
-unfoldable pub inQuads : List Numbers → List ℕ
-inQuads [] = []
-inQuads (n ∷ rest) = n .operation ∷ n .process ∷ n .file ∷ n .extra ∷ inQuads rest
 
 -- where a run of calls ends, and what it answers: every call in order, refused ones too
 abbrev pub endOf : Setup → Store → List Numbers → Store

@@ -2,8 +2,7 @@
 use Prim.Native.Nat.{ℕ, _+_, _*_}
 use mathlib.Core.List.{List, _++_}
 use lib.ListN.{length, take, drop}
-use Rattle.rules.specs.Calls.{Numbers}
-use Rattle.lists.specs.Lists.{callWidth, inQuads}
+use Rattle.rules.specs.Calls.{Numbers, callWidth, inQuads}
 
 -- the room with calls from place i on, and all else as it was
 unfoldable pub withCalls : List ℕ → ℕ → List Numbers → List ℕ

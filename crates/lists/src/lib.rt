@@ -4,11 +4,7 @@ pub mod writing;
 
 use rules::Store;
 
-// The most calls in a list, and how many numbers a call and an answer take.
-pub const CALLS: usize = 1024;
-
-pub const CALL_WIDTH: usize = 4;
-
+// How many numbers an answer takes.
 pub const ANSWER_WIDTH: usize = 2;
 
 // The number of calls run, or the refusal for which none was.

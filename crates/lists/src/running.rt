@@ -1,7 +1,5 @@
 // Running a list of calls: the refusals of the list as a whole, the loop, and the entry.
 use crate::ANSWER_WIDTH;
-use crate::CALL_WIDTH;
-use crate::CALLS;
 use crate::ListAnswer;
 use crate::Listed;
 use calling::decoding::decode;
@@ -13,6 +11,8 @@ use calling::entry::sheet_of;
 use calling::stepping::step;
 use judging::fitting::judge;
 use rules::Answer;
+use rules::CALL_WIDTH;
+use rules::CALLS;
 use rules::Decoded;
 use rules::PROCESSES;
 use rules::Setup;
@@ -23,9 +23,10 @@ ghost use mathlib.Core.List.{_++_};
 ghost use Prim.Native.Nat.{_+_, _*_, _<_, _≤_};
 ghost use lib.ListN.{length, set, drop};
 ghost use Rattle.rules.specs.Setups.{accepted};
+ghost use Rattle.rules.specs.Calls.{callsIn, numbersAt, callsOf};
 ghost use Rattle.rules.specs.Answers.{kindOf, valueOf};
 ghost use Rattle.rules.specs.Entries.{decoded};
-ghost use Rattle.lists.specs.Lists.{answerWidth, callsIn, numbersAt, callsOf, endOf, answersOver, inNumbers, listRefusal, listed, roomAfter, listNumbersOf};
+ghost use Rattle.lists.specs.Lists.{answerWidth, endOf, answersOver, inNumbers, listRefusal, listed, roomAfter, listNumbersOf};
 
 fn kind_of(answer: Answer) -> u32
     ensures { λ r. ⌜ r ≡ kindOf answer ⌝ }

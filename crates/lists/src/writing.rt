@@ -1,11 +1,10 @@
 // Writing calls into a lent run of numbers.
-use crate::CALL_WIDTH;
+use rules::CALL_WIDTH;
 ghost use mathlib.Core.Path.{_≡_};
 ghost use mathlib.Core.List.{[], _∷_};
 ghost use Prim.Native.Nat.{_+_, _*_, _≤_};
 ghost use lib.ListN.{length};
-ghost use Rattle.rules.specs.Calls.{numbers};
-ghost use Rattle.lists.specs.Lists.{callWidth};
+ghost use Rattle.rules.specs.Calls.{numbers, callWidth};
 ghost use Rattle.lists.specs.Writers.{withCalls};
 
 // Call i of the list, as four numbers at its place.

@@ -9,7 +9,9 @@ use borrow.Author.Tests.{le-ltb}
 use lib.ListN.{length, getD, take, drop}
 use lib.Seq.{take-at}
 use Rattle.secrecy.proofs.Runs.{one-answer-each}
+use Rattle.rules.specs.Sizes.{mostCalls}
 use Rattle.rules.specs.Stores.{freshStore}
+use Rattle.rules.specs.Calls.{callWidth, callsIn, numbersAt, callsOf}
 use Rattle.rules.specs.Entries.{freshness}
 use Rattle.rules.specs.declared.Setup.{Setup}
 use Rattle.rules.specs.declared.Answer.{Answer}
@@ -20,7 +22,7 @@ use Rattle.rules.proofs.Refusals.{judgeRefusal-iff}
 use Rattle.rules.proofs.Sizes.{length-table, table-is}
 use Rattle.rules.proofs.Stores.{freshStore-fits}
 use Rattle.views.specs.Machine.{machine}
-use Rattle.lists.specs.Lists.{mostCalls, callWidth, answerWidth, callsIn, numbersAt, callsOf, answersOver, inNumbers, listRefusal, roomAfter}
+use Rattle.lists.specs.Lists.{answerWidth, answersOver, inNumbers, listRefusal, roomAfter}
 use Rattle.lists.proofs.Lists.{list-judged, room-runs}
 use Rattle.lists.proofs.Numbers.{inNumbers-length}
 use Rattle.printing.specs.Writers.{answersIn, answerAt, answersOf, Runs}

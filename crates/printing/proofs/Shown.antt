@@ -7,11 +7,10 @@ use native.Mathlib.Nat.{le-antisymm, zero-add}
 use native.Mathlib.Numerals.{add-one}
 use native.Mathlib.Omega.{arith}
 use lib.ListN.{length, length-append}
-use Rattle.rules.specs.Sizes.{table, mostNumber}
+use Rattle.rules.specs.Sizes.{table, mostNumber, mostCalls}
 use Rattle.rules.specs.Answers.{valueOf}
 use Rattle.rules.specs.declared.Answer.{Answer}
 use Rattle.rules.proofs.Sizes.{length-table}
-use Rattle.lists.specs.Lists.{mostCalls}
 use Rattle.lists.proofs.Numbers.{table-more}
 use Rattle.printing.specs.Outputs.{answerLine, answerLines}
 use Rattle.printing.specs.Writers.{Fit, Wrote, longestLine, answersIn, answerAt, answersOf}

@@ -7,9 +7,11 @@ use native.Mathlib.Omega.{arith}
 use borrow.Author.Tests.{lt-ltb, le-ltb}
 use lib.ListN.{length, take, drop}
 use lib.Seq.{take-at}
+use Rattle.rules.specs.Sizes.{mostCalls}
 use Rattle.rules.specs.Stores.{freshStore}
-use Rattle.lists.specs.Lists.{mostCalls, callWidth, callsOf, answersOver, inQuads}
-use Rattle.lists.proofs.Quads.{inQuads-length, calls-of-quads}
+use Rattle.rules.specs.Calls.{callWidth, callsOf, inQuads}
+use Rattle.lists.specs.Lists.{answersOver}
+use Rattle.rules.proofs.Quads.{inQuads-length, calls-of-quads}
 use Rattle.lines.specs.Readings.{Reached, sound, refused, breaksRules, withCalls, readText}
 use Rattle.lines.specs.Entries.{givenBy, callsBy, reachedWith, readWithCalls, callsRead, roomRead}
 use Rattle.lines.specs.declared.Reading.the-variants.{Read, Refused}

@@ -8,12 +8,11 @@ use native.Mathlib.Omega.{arith}
 use borrow.Author.Tests.{ltb-true, ltb-false}
 use lib.Dec.{ltb}
 use lib.ListN.{length, length-append}
-use Rattle.rules.specs.Sizes.{mostNumber}
+use Rattle.rules.specs.Sizes.{mostNumber, mostCalls}
 use Rattle.rules.specs.Answers.{valueOf, answerOf}
 use Rattle.rules.specs.declared.Answer.{Answer}
 use Rattle.rules.specs.declared.Answer.the-variants.{Nothing, Figure, Yes, No, Refused}
 use Rattle.rules.proofs.Lists.{by-test}
-use Rattle.lists.specs.Lists.{mostCalls}
 use Rattle.lines.specs.Bytes.{tab, digit}
 use Rattle.lines.specs.Lines.{joined}
 use Rattle.lines.specs.Decimals.{ten, digitsOf}

@@ -4,12 +4,13 @@ use mathlib.Core.Path.{_≡_}
 use mathlib.Core.Bool.{true}
 use mathlib.Core.List.{List, _++_}
 use lib.ListN.{length, getD, take, drop}
-use Rattle.rules.specs.Sizes.{table}
+use Rattle.rules.specs.Sizes.{table, mostCalls}
 use Rattle.rules.specs.Setups.{accepted}
+use Rattle.rules.specs.Calls.{callWidth}
 use Rattle.rules.specs.declared.Setup.{Setup}
 use Rattle.rules.specs.declared.Answer.{Answer}
 use Rattle.rules.specs.Answers.{answerOf}
-use Rattle.lists.specs.Lists.{mostCalls, callWidth, answerWidth}
+use Rattle.lists.specs.Lists.{answerWidth}
 
 -- the run with bytes from a place on, and all else as it was
 unfoldable pub withBytes : List ℕ → ℕ → List ℕ → List ℕ

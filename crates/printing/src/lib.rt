@@ -2,7 +2,7 @@
 pub mod entry;
 mod writing;
 
-use lists::CALLS;
+use rules::CALLS;
 
 // The most bytes that the program takes.
 pub const INPUT: usize = 32768;

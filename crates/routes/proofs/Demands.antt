@@ -10,10 +10,10 @@ use lib.Dec.{ltb}
 use lib.ListN.{length, take}
 use lib.Seq.{take-at}
 use Rattle.rules.specs.Sizes.{mostDesks}
+use Rattle.rules.specs.Calls.{callWidth, callsOf, inQuads}
 use Rattle.rules.specs.declared.Setup.{Setup}
 use Rattle.rules.proofs.Lists.{by-test}
 use Rattle.rules.proofs.Setups.{accepted-sizes}
-use Rattle.lists.specs.Lists.{callWidth, callsOf, inQuads}
 use Rattle.chains.specs.Chains.{HasRoute, far, linksTo, chainOf}
 use Rattle.chains.proofs.Chains.{some-link}
 use Rattle.chains.proofs.Walk.{chainOf-length}
@@ -25,7 +25,7 @@ use Rattle.demand.proofs.Exactly.{report-shows, exactly}
 use Rattle.routes.specs.Reports.{routeRefusal, routed, roomAfter}
 use Rattle.routes.specs.Demand3.{ShownBy, Demand3}
 use Rattle.routes.specs.declared.RouteAnswer.the-variants.{NoRoute}
-use Rattle.lists.proofs.Quads.{inQuads-length, calls-of-quads}
+use Rattle.rules.proofs.Quads.{inQuads-length, calls-of-quads}
 use Rattle.routes.proofs.Reports.{Sound, route-sound, routed-refused, room-refused, routed-none, routed-shown, room-shown}
 
 -- what follows where no refusal is given and where one is follows

@@ -9,11 +9,11 @@ use native.Mathlib.Omega.{arith}
 use borrow.Author.Tests.{ltb-false, leb-false, eqb-false, not-false, lt-ltb, le-ltb}
 use lib.ListN.{length, drop}
 use Rattle.rules.specs.Setups.{accepted}
+use Rattle.rules.specs.Calls.{callWidth, inQuads}
 use Rattle.rules.specs.declared.Setup.{Setup}
 use Rattle.rules.proofs.Lists.{neither}
 use Rattle.rules.proofs.Refusals.{unmet-iff}
 use Rattle.rules.proofs.Told.{unless-refused}
-use Rattle.lists.specs.Lists.{callWidth, inQuads}
 use Rattle.chains.specs.Chains.{mostLinks, far, linksTo, chainOf}
 use Rattle.demand.specs.Routes.{routeCalls, callsFor}
 use Rattle.routes.specs.Reports.{mostRouteNumbers, routeOrder, routeRefusal, routed, roomAfter}

@@ -10,13 +10,12 @@ use native.Mathlib.Omega.{arith}
 use lib.ListN.{length, getD, drop, length-append}
 use Rattle.rules.specs.Sizes.{mostDesks, mostFiles}
 use Rattle.rules.specs.Setups.{accepted}
-use Rattle.rules.specs.Calls.{Numbers}
+use Rattle.rules.specs.Calls.{Numbers, callWidth, inQuads}
 use Rattle.rules.specs.Links.{linked}
 use Rattle.rules.specs.declared.Setup.{Setup}
 use Rattle.rules.proofs.Lists.{getElem?-getD}
 use Rattle.rules.proofs.Sizes.{length-table}
 use Rattle.rules.proofs.Setups.{accepted-sizes}
-use Rattle.lists.specs.Lists.{callWidth, inQuads}
 use Rattle.lists.specs.Writers.{withCalls}
 use Rattle.chains.specs.Chains.{processAt, fileFor, isChain, Taken, mostLinks, far, reach, linksTo, nextDesk, walk, chainOf}
 use Rattle.chains.proofs.Chains.{chain-none, chain-first, some-link, link-end}

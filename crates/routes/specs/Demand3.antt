@@ -3,8 +3,8 @@ use Prim.Native.Nat.{ℕ, _*_}
 use mathlib.Core.Path.{_≡_}
 use mathlib.Core.List.{List}
 use lib.ListN.{length, take}
+use Rattle.rules.specs.Calls.{callWidth, callsOf}
 use Rattle.rules.specs.declared.Setup.{Setup}
-use Rattle.lists.specs.Lists.{callWidth, callsOf}
 use Rattle.chains.specs.Chains.{Taken}
 use Rattle.demand.specs.Routes.{routeCalls, callsFor}
 use Rattle.demand.specs.Heard.{Unheard, Shows}

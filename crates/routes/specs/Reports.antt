@@ -4,10 +4,10 @@ use mathlib.Core.Bool.{_||_, cond}
 use mathlib.Core.List.{List, [], _∷_, _++_}
 use lib.Dec.{ltb, leb, eqb}
 use lib.ListN.{length, drop}
+use Rattle.rules.specs.Calls.{callWidth, inQuads}
 use Rattle.rules.specs.Refusals.{Refusal, _gives_, firstOf, refusal15}
 use Rattle.rules.specs.Entries.{unless}
 use Rattle.rules.specs.declared.Setup.{Setup}
-use Rattle.lists.specs.Lists.{callWidth, inQuads}
 use Rattle.chains.specs.Chains.{mostLinks, far, linksTo, chainOf}
 use Rattle.demand.specs.Routes.{routeCalls, callsFor}
 use Rattle.routes.specs.declared.RouteAnswer.{RouteAnswer}

@@ -7,9 +7,8 @@ use mathlib.Core.List.{List, [], _∷_, _++_}
 use lib.ListN.{length, getD, take, drop}
 use Rattle.rules.specs.Sizes.{mostDesks, table}
 use Rattle.rules.specs.Setups.{accepted}
-use Rattle.rules.specs.Calls.{Numbers}
+use Rattle.rules.specs.Calls.{Numbers, callWidth}
 use Rattle.rules.specs.declared.Setup.{Setup}
-use Rattle.lists.specs.Lists.{callWidth}
 use Rattle.chains.specs.Chains.{processAt, mostLinks, far, reach, linksTo}
 use Rattle.demand.specs.Routes.{readCall, writeCall, lockCall, unlockCall, openCall, copyCall}
 use Rattle.routes.specs.Reports.{mostRouteNumbers}

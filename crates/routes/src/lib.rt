@@ -2,7 +2,7 @@
 pub mod report;
 mod writing;
 
-use lists::CALL_WIDTH;
+use rules::CALL_WIDTH;
 use rules::DESKS;
 
 // The most links that a chain needs.

@@ -14,7 +14,7 @@ ghost use mathlib.Core.Path.{_≡_};
 ghost use mathlib.Core.List.{[], _∷_, _++_};
 ghost use Prim.Native.Nat.{_+_, _*_, _≤_};
 ghost use lib.ListN.{length, drop};
-ghost use Rattle.lists.specs.Lists.{callWidth, inQuads};
+ghost use Rattle.rules.specs.Calls.{callWidth, inQuads};
 ghost use Rattle.lists.specs.Writers.{withCalls};
 ghost use Rattle.chains.specs.Chains.{linksTo, chainOf};
 ghost use Rattle.demand.specs.Routes.{routeCalls, callsFor};

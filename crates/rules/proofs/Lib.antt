@@ -1,4 +1,4 @@
--- The laws of the definitions in specs/: a file for each of theirs, Codes, Turns and Numbers on parts of the calls and entries,
+-- The laws of the definitions in specs/: a file for each of theirs, Codes, Turns, Numbers and Quads on parts of the calls and entries,
 -- and Lists, Told, Passed and Filled on lists, tests and loops.
 pub mod Answers
 pub mod Calls
@@ -9,6 +9,7 @@ pub mod Links
 pub mod Lists
 pub mod Numbers
 pub mod Passed
+pub mod Quads
 pub mod Refusals
 pub mod Setups
 pub mod Sizes

@@ -1,9 +1,9 @@
 -- 01, "The eight calls": when each goes through, its effect, and its answer.
-use Prim.Native.Nat.{ℕ, _+_, _-_, _≤_}
+use Prim.Native.Nat.{ℕ, _+_, _-_, _*_, _/_, _≤_}
 use mathlib.Core.Bool.{Bool, _&&_, _||_, cond}
 use mathlib.Core.List.{List, [], _∷_}
-use lib.ListN.{getD}
-use Rattle.rules.specs.Sizes.{mostNumber}
+use lib.ListN.{length, getD}
+use Rattle.rules.specs.Sizes.{mostNumber, table}
 use Rattle.rules.specs.Setups.{mayRead, mayWrite}
 use Rattle.rules.specs.Stores.{unlocked, lockedBy, isOpen, holderOf, contentOf, markOf, sheetOf, withSheet}
 use Rattle.rules.specs.declared.Setup.{Setup}
@@ -33,6 +33,26 @@ pub record Is32 (n : Numbers) : Type 0 where
   pub process : n .process ≤ mostNumber
   pub file : n .file ≤ mostNumber
   pub extra : n .extra ≤ mostNumber
+
+-- "A list is a lent run of 32-bit numbers, four a call"
+abbrev pub callWidth : ℕ
+callWidth = 4
+
+abbrev pub callsIn : List ℕ → ℕ
+callsIn list = length list / callWidth
+
+abbrev pub numbersAt : List ℕ → ℕ → Numbers
+numbersAt list i =
+    let at = i * callWidth in
+    numbers (getD list at 0) (getD list (at + 1) 0) (getD list (at + 2) 0) (getD list (at + 3) 0)
+
+-- the calls of a list, and calls as the numbers of a list
+unfoldable pub callsOf : List ℕ → List Numbers
+callsOf list = table (callsIn list) (numbersAt list)
+
+unfoldable pub inQuads : List Numbers → List ℕ
+inQuads [] = []
+inQuads (n ∷ rest) = n .operation ∷ n .process ∷ n .file ∷ n .extra ∷ inQuads rest
 
 -- the column "Code": the calls of codes 1 to 8, in their order
 abbrev pub calls : ℕ → ℕ → ℕ → List Call

@@ -19,6 +19,10 @@ mostProcesses = 64
 abbrev pub mostFiles : ℕ
 mostFiles = 32
 
+-- calls in a list, of which there may be none
+abbrev pub mostCalls : ℕ
+mostCalls = 1024
+
 abbrev pub mostRights : ℕ
 mostRights = mostDesks * mostClasses
 

@@ -10,6 +10,10 @@ pub const CLASSES: usize = 16;
 pub const PROCESSES: usize = 64;
 
 pub const FILES: usize = 32;
+// The most calls in a list; the least is none.
+pub const CALLS: usize = 1024;
+// How many numbers a call takes.
+pub const CALL_WIDTH: usize = 4;
 // Rights lie at desk * CLASSES + class, whatever the counts are.
 pub const RIGHTS: usize = DESKS * CLASSES;
 // Open marks lie at file * PROCESSES + process, whatever the counts are.

@@ -6,9 +6,9 @@ use mathlib.Core.List.{List, [], _++_}
 use native.Mathlib.Omega.{arith}
 use lib.ListN.{length, take, drop, length-append}
 use lib.Seq.{take-at}
+use Rattle.rules.specs.Calls.{callWidth, inQuads}
 use Rattle.rules.specs.declared.Setup.{Setup}
-use Rattle.lists.specs.Lists.{callWidth, inQuads}
-use Rattle.lists.proofs.Quads.{inQuads-length}
+use Rattle.rules.proofs.Quads.{inQuads-length}
 use Rattle.lines.specs.Shapes.{callsLine}
 use Rattle.lines.specs.Readings.{SoFar, Reached, sound, refused, breaksRules, afterCalls, alone, withCalls, readText, bytesRead}
 use Rattle.lines.specs.Entries.{givenBy, callsBy, readAlone, reachedWith, readWithCalls, callsRead, roomRead, textNumbersOf}

@@ -6,8 +6,8 @@ use mathlib.Core.List.{List, [], _∷_, _++_}
 use native.Mathlib.Omega.{arith}
 use borrow.Author.Tests.{lt-leb}
 use lib.ListN.{length, length-append}
-use Rattle.rules.specs.Calls.{Numbers}
-use Rattle.lists.specs.Lists.{mostCalls, callWidth}
+use Rattle.rules.specs.Sizes.{mostCalls}
+use Rattle.rules.specs.Calls.{Numbers, callWidth}
 use Rattle.lists.specs.Writers as writers
 use Rattle.lists.proofs.Quads.{no-calls, calls-more, calls-in-front, withCalls-length}
 use Rattle.lines.specs.Shapes.{callLine}

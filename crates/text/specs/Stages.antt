@@ -5,13 +5,12 @@ use mathlib.Core.Bool.{false, cond, not}
 use mathlib.Core.List.{List, [], _∷_, _++_}
 use lib.Dec.{ltb, leb}
 use lib.ListN.{length, getD, drop}
-use Rattle.rules.specs.Sizes.{mostClasses, mostRights, table}
+use Rattle.rules.specs.Sizes.{mostClasses, mostRights, table, mostCalls}
 use Rattle.rules.specs.Setups.{setupFrom, blankSetup}
-use Rattle.rules.specs.Calls.{Numbers}
+use Rattle.rules.specs.Calls.{Numbers, callWidth, inQuads}
 use Rattle.rules.specs.Refusals.{Refusal, _gives_}
 use Rattle.rules.specs.Entries.{unless}
 use Rattle.rules.specs.declared.Setup.{Setup}
-use Rattle.lists.specs.Lists.{mostCalls, callWidth, inQuads}
 use Rattle.lines.specs.Shapes.{theWord, aNumber, Shape, readAs, Header, Access}
 use Rattle.lines.specs.Readings.{Due, accessDue, processDue, fileDue, callsDue, callDue, SoFar, sound, refused, judged, refusal14, isNext, Text, withCalls, judgeDue, complete, readText, rightIn, bytesRead}
 use Rattle.text.specs.Onward.{onward}

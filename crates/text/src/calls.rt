@@ -1,11 +1,12 @@
 // Reading call lines into a run of numbers.
 use crate::CallSpan;
 use fields::shapes::call_at;
-use lists::CALLS;
 use lists::writing::put_call;
+use rules::CALLS;
 ghost use Prim.Native.Nat.{_*_, _≤_};
 ghost use lib.ListN.{length};
-ghost use Rattle.lists.specs.Lists.{mostCalls, callWidth};
+ghost use Rattle.rules.specs.Sizes.{mostCalls};
+ghost use Rattle.rules.specs.Calls.{callWidth};
 ghost use Rattle.text.specs.Stages.{CallsEnd};
 
 // The call lines to the end of the text, as numbers at the front of a run that has room for the most.

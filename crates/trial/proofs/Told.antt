@@ -8,9 +8,10 @@ use mathlib.Core.List.{List, [], _∷_, append-nil}
 use native.Mathlib.Nat.{not-suc-le-zero, le-of-suc-le-suc}
 use lib.Dec.{eqb}
 use lib.ListN.{length, take, drop, replicate}
+use Rattle.rules.specs.Calls.{callsIn}
 use Rattle.rules.specs.declared.Setup.{Setup}
 use Rattle.rules.specs.declared.Store.{Store}
-use Rattle.lists.specs.Lists.{callsIn, listed, roomAfter}
+use Rattle.lists.specs.Lists.{listed, roomAfter}
 use Rattle.lists.specs.declared.Listed.{Listed}
 use Rattle.lists.specs.declared.ListAnswer.the-variants.{Ran}
 use Rattle.routes.specs.Reports.{mostRouteNumbers, routed, routeNumbersOf}

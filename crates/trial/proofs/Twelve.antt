@@ -12,7 +12,7 @@ use Rattle.secrecy.specs.Machine.{after, answersWhere}
 use Rattle.rules.specs.Sizes.{every, someBelow, table}
 use Rattle.rules.specs.Setups.{mayRead, mayWrite, withinSizes, entryFits, rowFits, rightsFit, desksFit, classesFit, accepted, givenRight, setupFrom}
 use Rattle.rules.specs.Stores.{holderOf, freshStore, holderFits, markFits, fits}
-use Rattle.rules.specs.Calls.{callOf, goesThrough, effect, says, answerTo, nextStore}
+use Rattle.rules.specs.Calls.{callOf, goesThrough, effect, says, answerTo, nextStore, callsIn, callsOf, inQuads}
 use Rattle.rules.specs.Refusals.{firstOf, someFrom, slicesMatch, setupRefusal, numbersRefusal}
 use Rattle.rules.specs.Entries.{acceptance, ran}
 use Rattle.rules.specs.Links.{hasProcess, linked}
@@ -20,7 +20,7 @@ use Rattle.rules.specs.declared.Setup.{Setup}
 use Rattle.rules.specs.declared.Store.{Store}
 use Rattle.rules.proofs.Refusals.{judgeRefusal-iff}
 use Rattle.rules.proofs.Stores.{freshStore-fits, fits-withSheet}
-use Rattle.lists.specs.Lists.{answerWidth, callsIn, callsOf, inQuads, inNumbers, endOf, answersOver, refusal10, refusal11, listRefusal}
+use Rattle.lists.specs.Lists.{answerWidth, inNumbers, endOf, answersOver, refusal10, refusal11, listRefusal}
 use Rattle.lists.proofs.Lists.{list-judged, listed-runs, room-runs}
 use Rattle.chains.specs.Chains.{lowest, nearer, reach, nextDesk, walk, chainOf}
 use Rattle.demand.specs.Routes.{onward, routeCalls}

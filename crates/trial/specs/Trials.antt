@@ -7,11 +7,11 @@ use lib.ListN.{length, drop, replicate}
 use Rattle.rules.specs.Sizes.{mostNumber}
 use Rattle.rules.specs.Setups.{SetupBytes, setupBytes}
 use Rattle.rules.specs.Stores.{freshStore, withSheet}
-use Rattle.rules.specs.Calls.{Numbers, numbers, codeOfTestlock}
+use Rattle.rules.specs.Calls.{Numbers, numbers, codeOfTestlock, callsIn, inQuads}
 use Rattle.rules.specs.Entries.{acceptance}
 use Rattle.rules.specs.declared.Setup.{Setup}
 use Rattle.rules.specs.declared.Store.{Store}
-use Rattle.lists.specs.Lists.{callsIn, inQuads, listed}
+use Rattle.lists.specs.Lists.{listed}
 use Rattle.lists.specs.Lists as lists
 use Rattle.lists.specs.declared.ListAnswer.the-variants.{Ran}
 use Rattle.demand.specs.Routes.{readCall, writeCall, lockCall, unlockCall, openCall, copyCall}

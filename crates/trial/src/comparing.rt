@@ -1,10 +1,10 @@
 // What a case's check compares: what an entry answers and leaves, and what is to come out.
-use lists::CALL_WIDTH;
 use lists::ListAnswer;
 use lists::running::run;
 use routes::ROUTE_NUMBERS;
 use routes::RouteAnswer;
 use routes::report::report;
+use rules::CALL_WIDTH;
 use rules::Content;
 use rules::FILES;
 use rules::Setup;

@@ -2,7 +2,7 @@
 -- Assumes nothing.
 use borrow.Author.Needs.{needs}
 use native.Mathlib.Omega.{arith}
-use Rattle.lists.specs.Lists.{inQuads}
+use Rattle.rules.specs.Calls.{inQuads}
 use Rattle.trial.specs.Trials.{inPairs}
 use Rattle.trial.proofs.Told.{handed-on, handed-route}
 use Rattle.trial.proofs.Twelve.{comes-out}

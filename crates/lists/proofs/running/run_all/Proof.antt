@@ -7,14 +7,13 @@ use borrow.Author.Needs.{needs}
 use Rattle.rules.specs.Sizes.{mostProcesses, mostFiles}
 use Rattle.rules.specs.Setups.{mayRead, mayWrite}
 use Rattle.rules.specs.Stores.{withSheet}
-use Rattle.rules.specs.Calls.{looksAt, turnOf}
+use Rattle.rules.specs.Calls.{looksAt, turnOf, callsIn, numbersAt}
 use Rattle.rules.specs.Entries.{decoded, ran}
 use Rattle.rules.specs.declared.Decoded.{Decoded}
 use Rattle.rules.specs.declared.Decoded.the-variants.{Is, Not}
 use Rattle.rules.proofs.Codes.{InRange}
 use Rattle.rules.proofs.Numbers.{decoded-in-range, ran-is, ran-not}
 use Rattle.rules.proofs.Turns.{turn-answer, turn-put}
-use Rattle.lists.specs.Lists.{callsIn, numbersAt}
 use Rattle.lists.proofs.Runs.{Running, running-none, running-more, running-all}
 use Rattle.lists.proofs.running.run_all.Statement.{statement}
 use Rattle.lists.proofs.running.run_all.Tie as tie

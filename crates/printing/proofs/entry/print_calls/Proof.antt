@@ -6,7 +6,8 @@ use native.Mathlib.Omega.{arith}
 use borrow.Author.Needs.{needs}
 use lib.ListN.{take, length-take}
 use Rattle.rules.specs.Stores.{freshStore}
-use Rattle.lists.specs.Lists.{answerWidth, callsIn, callsOf, answersOver, inNumbers}
+use Rattle.rules.specs.Calls.{callsIn, callsOf}
+use Rattle.lists.specs.Lists.{answerWidth, answersOver, inNumbers}
 use Rattle.printing.proofs.Ran.{answers-of-numbers, answers-front}
 use Rattle.printing.proofs.entry.print_calls.Statement.{statement}
 use Rattle.printing.proofs.entry.print_calls.Tie as tie

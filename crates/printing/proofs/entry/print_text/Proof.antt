@@ -6,7 +6,8 @@ use mathlib.Core.List.{List}
 use native.Mathlib.Omega.{arith}
 use borrow.Author.Needs.{needs}
 use lib.ListN.{length, replicate, length-take}
-use Rattle.lists.specs.Lists.{mostCalls, callWidth}
+use Rattle.rules.specs.Sizes.{mostCalls}
+use Rattle.rules.specs.Calls.{callWidth}
 use Rattle.lines.specs.Entries.{readWithCalls, roomRead}
 use Rattle.lines.specs.declared.Reading.{Reading}
 use Rattle.lines.specs.declared.GivenText.{GivenText}

@@ -1,11 +1,11 @@
--- `host::by_value::dw_run` meets its contract, by what the list's run promises.
+-- `dirgewater::by_value::dw_run` meets its contract, by what the list's run promises.
 -- Assumes nothing.
 use borrow.Author.Needs.{needs}
 use mathlib.Core.Path.{ap, _∙_}
 use Rattle.lists.specs.Lists.{listNumbersOf}
 use Rattle.lists.specs.declared.Listed.{Listed}
-use Rattle.host.proofs.by_value.dw_run.Statement.{statement}
-use Rattle.host.proofs.by_value.dw_run.Tie as tie
+use Rattle.dirgewater.proofs.by_value.dw_run.Statement.{statement}
+use Rattle.dirgewater.proofs.by_value.dw_run.Tie as tie
 
 run-requires : tie.Need-run-requires
 run-requires c κs = search needs

@@ -1,9 +1,9 @@
--- `host::texts::dw_read_with_calls` meets its contract, by what the reader promises.
+-- `dirgewater::texts::dw_read_with_calls` meets its contract, by what the reader promises.
 -- Assumes nothing.
 use borrow.Author.Needs.{needs}
-use Rattle.host.proofs.Crossings.{crosses-same}
-use Rattle.host.proofs.texts.dw_read_with_calls.Statement.{statement}
-use Rattle.host.proofs.texts.dw_read_with_calls.Tie as tie
+use Rattle.dirgewater.proofs.Crossings.{crosses-same}
+use Rattle.dirgewater.proofs.texts.dw_read_with_calls.Statement.{statement}
+use Rattle.dirgewater.proofs.texts.dw_read_with_calls.Tie as tie
 
 read-with-calls-requires : tie.Need-read-with-calls-requires
 read-with-calls-requires c κs = search needs

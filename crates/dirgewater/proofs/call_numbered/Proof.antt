@@ -1,12 +1,12 @@
--- `host::call_numbered` meets its contract: what `calling::entry::call` returns is `called`'s, so its two numbers and its store are.
+-- `dirgewater::call_numbered` meets its contract: what `calling::entry::call` returns is `called`'s, so its two numbers and its store are.
 -- Assumes nothing.
 use borrow.Author.Needs.{needs}
 use Prim.Native.Nat.{ℕ}
 use mathlib.Core.Path.{_≡_, _∙_, ap}
 use Rattle.rules.specs.Answers.{kindOf, valueOf}
 use Rattle.rules.specs.declared.Called.{Called}
-use Rattle.host.proofs.call_numbered.Statement.{statement}
-use Rattle.host.proofs.call_numbered.Tie as tie
+use Rattle.dirgewater.proofs.call_numbered.Statement.{statement}
+use Rattle.dirgewater.proofs.call_numbered.Tie as tie
 
 call-requires : tie.Need-call-requires
 call-requires c κs = search needs

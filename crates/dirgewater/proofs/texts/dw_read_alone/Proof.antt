@@ -1,9 +1,9 @@
--- `host::texts::dw_read_alone` meets its contract, by what the reader promises.
+-- `dirgewater::texts::dw_read_alone` meets its contract, by what the reader promises.
 -- Assumes nothing.
 use borrow.Author.Needs.{needs}
-use Rattle.host.proofs.Crossings.{crosses-same}
-use Rattle.host.proofs.texts.dw_read_alone.Statement.{statement}
-use Rattle.host.proofs.texts.dw_read_alone.Tie as tie
+use Rattle.dirgewater.proofs.Crossings.{crosses-same}
+use Rattle.dirgewater.proofs.texts.dw_read_alone.Statement.{statement}
+use Rattle.dirgewater.proofs.texts.dw_read_alone.Tie as tie
 
 read-alone-requires : tie.Need-read-alone-requires
 read-alone-requires c κs = search needs

@@ -1,4 +1,4 @@
--- `host::lent::dw_call_in_place` meets its contract: a walk of its MIR, by hand, since the borrow checker covers no reference to a struct.
+-- `dirgewater::lent::dw_call_in_place` meets its contract: a walk of its MIR, by hand, since the borrow checker covers no reference to a struct.
 -- The borrow is opened, the store that lies there is copied out whole and passed by value, the store that comes back is put over it whole, and the borrow is closed at that one.
 -- All that the walk knows of `call_numbered` is that it meets its contract. No array is taken apart: the laws that the check makes of each struct spell its machine value whole, give it its type, and make what it owns of its relation.
 -- Assumes nothing.
@@ -49,20 +49,20 @@ use Rattle.rules.proofs.Setup as U
 use Rattle.rules.proofs.Setup.Laws as U′
 use Rattle.rules.proofs.Store as T
 use Rattle.rules.proofs.Store.Laws as T′
-use Rattle.host.specs.declared.Numbered.{Numbered}
-use Rattle.host.specs.declared.Outcome.{Outcome}
-use Rattle.host.proofs.Numbered as N
-use Rattle.host.proofs.Numbered.Laws as N′
-use Rattle.host.proofs.Outcome as O
-use Rattle.host.proofs.Outcome.Laws as O′
-use Rattle.host.proofs.call_numbered as g
-use Rattle.host.proofs.call_numbered.Symbol as g-def
-use Rattle.host.proofs.call_numbered.Symbol.{name as #host·call-numbered}
-use Rattle.host.proofs.call_numbered.Met as g-thm
-use Rattle.host.proofs.lent.dw_call_in_place.Key.{name as #host·dw-call-in-place}
-use Rattle.host.proofs.lent.dw_call_in_place as f
-use Rattle.host.proofs.lent.dw_call_in_place.Statement as stated
-use Rattle.host.proofs.lent.dw_call_in_place.Code as code
+use Rattle.dirgewater.specs.declared.Numbered.{Numbered}
+use Rattle.dirgewater.specs.declared.Outcome.{Outcome}
+use Rattle.dirgewater.proofs.Numbered as N
+use Rattle.dirgewater.proofs.Numbered.Laws as N′
+use Rattle.dirgewater.proofs.Outcome as O
+use Rattle.dirgewater.proofs.Outcome.Laws as O′
+use Rattle.dirgewater.proofs.call_numbered as g
+use Rattle.dirgewater.proofs.call_numbered.Symbol as g-def
+use Rattle.dirgewater.proofs.call_numbered.Symbol.{name as #dirgewater·call-numbered}
+use Rattle.dirgewater.proofs.call_numbered.Met as g-thm
+use Rattle.dirgewater.proofs.lent.dw_call_in_place.Key.{name as #dirgewater·dw-call-in-place}
+use Rattle.dirgewater.proofs.lent.dw_call_in_place as f
+use Rattle.dirgewater.proofs.lent.dw_call_in_place.Statement as stated
+use Rattle.dirgewater.proofs.lent.dw_call_in_place.Code as code
 
 abbrev stayed : Stays (f.ended .signature .params) (f.ended .kept)
 stayed = (
@@ -166,7 +166,7 @@ module _ {M : Type 1} (𝓤 : URA M) (H : Heap 𝓤) (A : Atoms 𝓤) (W : Given
       use0 W (‵ (owns Four ns ws)) four $ move ! (1 ∷ 0 ∷ []) $ fjoin ! $ owned ! U.the-row (Is U.the-row) (LL.makes U.the-type U′.the-plain 𝓤 H A) s _ s-is $ fjoin ! $
       owned ! N.the-row (Is N.the-row) (LL.makes N.the-type N′.the-plain 𝓤 H A) (r .numbered) _ is $ move ! (1 ∷ 0 ∷ []) $ done !
 
-  module _ (C : Calls 𝓤 H) (Λ : Loops 𝓤 H) (fm : FmC 𝓤 H (W .laws) C) (known : Triple 𝓤 (C #host·call-numbered) (ByValue 𝓤 H A at-mem run)) where
+  module _ (C : Calls 𝓤 H) (Λ : Loops 𝓤 H) (fm : FmC 𝓤 H (W .laws) C) (known : Triple 𝓤 (C #dirgewater·call-numbered) (ByValue 𝓤 H A at-mem run)) where
     walk : ent 𝓤 (onEntry 𝓤 H A f.signature (κ, tt) (q, tt) a at) (WpFn 𝓤 H C Λ code.function machine Post)
     walk =
         qed W ((‵ (flft κ q) ⊛ ‵ ftrue) ∷ ‵ (owns (U.the-row ∷ MutRef (named 0) κ T.the-row ∷ Four) a at) ∷ []) ∵
@@ -209,7 +209,7 @@ module _ {M : Type 1} (𝓤 : URA M) (H : Heap 𝓤) (A : Atoms 𝓤) (W : Given
         keep ! (0 ∷ 1 ∷ 2 ∷ []) $ by ! (exits r e (numbered-is r v is)))))))))))))))))
 
 module _ {M : Type 1} (𝓤 : URA M) (H : Heap 𝓤) (A : Atoms 𝓤) (W : Given 𝓤 H A) (at-mem : Memory → SProp 𝓤) (run : Routine → Fun 𝓤) where
-  in-place-walks : (C : Calls 𝓤 H) (Λ : Loops 𝓤 H) → FmC 𝓤 H (W .laws) C → Triple 𝓤 (C #host·call-numbered) (ByValue 𝓤 H A at-mem run)
+  in-place-walks : (C : Calls 𝓤 H) (Λ : Loops 𝓤 H) → FmC 𝓤 H (W .laws) C → Triple 𝓤 (C #dirgewater·call-numbered) (ByValue 𝓤 H A at-mem run)
       → Walks 𝓤 H A f.ended stayed (WpFn 𝓤 H C Λ code.function) (f.clauses 𝓤 H A at-mem run)
   in-place-walks C Λ fm known = walked 𝓤 H A f.ended stayed (f.clauses 𝓤 H A at-mem run) (WpFn 𝓤 H C Λ code.function)
       (λ κs. (setup-vals, (ptr-vals, (uint-vals w32, (uint-vals w32, (uint-vals w32, (uint-vals w32, tt)))))))
@@ -224,7 +224,7 @@ module _ {M : Type 1} (𝓤 : URA M) (H : Heap 𝓤) (A : Atoms 𝓤) (W : Given
       (goes-none 𝓤 H A W 1 (λ _. U.the-row) yes (λ κs x f. refl), (goes-ref 𝓤 H A W 1 0 tt (plain (λ _. T.the-row)), (number, (number, (number, (number, tt))))))
 
 in-place-meets : {M : Type 1} (𝓤 : URA M) (H : Heap 𝓤) (A : Atoms 𝓤) → Given 𝓤 H A → (at-mem : Memory → SProp 𝓤) (run : Routine → Fun 𝓤) (𝓣 : Tables 𝓤 H)
-    → Triple 𝓤 (𝓣 .C #host·call-numbered) (ByValue 𝓤 H A at-mem run) → Meets 𝓤 H A f.signature (WpFn 𝓤 H (𝓣 .C) (𝓣 .Λ) code.function) (f.spec 𝓤 H A at-mem run)
+    → Triple 𝓤 (𝓣 .C #dirgewater·call-numbered) (ByValue 𝓤 H A at-mem run) → Meets 𝓤 H A f.signature (WpFn 𝓤 H (𝓣 .C) (𝓣 .Λ) code.function) (f.spec 𝓤 H A at-mem run)
 in-place-meets 𝓤 H A W at-mem run 𝓣 known =
     walk-meets 𝓤 H A f.ended stayed W (goes 𝓤 H A W at-mem run) (f.clauses 𝓤 H A at-mem run) (WpFn 𝓤 H (𝓣 .C) (𝓣 .Λ) code.function)
     (WpFn-mono 𝓤 H (W .laws) 𝓣 code.function) (in-place-walks 𝓤 H A W at-mem run (𝓣 .C) (𝓣 .Λ) (fmOf 𝓤 H (W .laws) 𝓣) known)
@@ -233,6 +233,6 @@ pub dw-call-in-place-spec : {M : Type 1} → stated.statement M
 unfolding code.routine tablesOf
 dw-call-in-place-spec 𝓤 H 𝓜 𝓖 𝓡 =
     entered 𝓤 H (tripleOf 𝓤 H (𝓖 .A) f.signature (f.spec 𝓤 H (𝓖 .A) (𝓜 .mem) (𝓡 .run)))
-    (tables 𝓤 H 𝓜 𝓡 code.env .C) (tables 𝓤 H 𝓜 𝓡 code.env .Λ) #host·dw-call-in-place code.function (code.unfolded 𝓤 H 𝓜 𝓡)
+    (tables 𝓤 H 𝓜 𝓡 code.env .C) (tables 𝓤 H 𝓜 𝓡 code.env .Λ) #dirgewater·dw-call-in-place code.function (code.unfolded 𝓤 H 𝓜 𝓡)
     (in-place-meets 𝓤 H (𝓖 .A) (givenOf 𝓤 H 𝓜 𝓖) (𝓜 .mem) (𝓡 .run) (tablesOf 𝓤 H 𝓜 (tables 𝓤 H 𝓜 𝓡 code.env))
-    (cited 𝓤 H (ByValue 𝓤 H (𝓖 .A) (𝓜 .mem) (𝓡 .run)) 𝓜 𝓡 code.env #host·call-numbered g-def.routine code.calls-host·call-numbered (g-thm.met 𝓤 H 𝓜 𝓖 𝓡)))
+    (cited 𝓤 H (ByValue 𝓤 H (𝓖 .A) (𝓜 .mem) (𝓡 .run)) 𝓜 𝓡 code.env #dirgewater·call-numbered g-def.routine code.calls-dirgewater·call-numbered (g-thm.met 𝓤 H 𝓜 𝓖 𝓡)))

@@ -1,11 +1,11 @@
--- `host::by_value::dw_route` meets its contract: the report's answer as two numbers.
+-- `dirgewater::by_value::dw_route` meets its contract: the report's answer as two numbers.
 -- Assumes nothing.
 use mathlib.Core.Path.{_∙_, ap}
 use borrow.Author.Needs.{needs}
 use Rattle.routes.specs.Reports.{routeNumbersOf}
 use Rattle.routes.specs.declared.RouteAnswer.{RouteAnswer}
-use Rattle.host.proofs.by_value.dw_route.Statement.{statement}
-use Rattle.host.proofs.by_value.dw_route.Tie as tie
+use Rattle.dirgewater.proofs.by_value.dw_route.Statement.{statement}
+use Rattle.dirgewater.proofs.by_value.dw_route.Tie as tie
 
 report-requires : tie.Need-report-requires
 report-requires c κs = search needs
