@@ -254,7 +254,7 @@ static void do_case(uint32_t kind) {
 }
 
 /* One case and its reply, whose length goes before it once it is known. It is written at once, so that where a case
- * ends the process, the replies before it are there. */
+ * ends the process or hangs, the replies before it are there. */
 static void answer_case(uint32_t kind) {
     out_len = sizeof(uint32_t);
     body_at = 0;

@@ -10,11 +10,28 @@
 
 #include "dirgewater.h"
 
-_Static_assert(sizeof(dw_setup) == 368, "a setup has no gaps");
-_Static_assert(sizeof(dw_store) == 2304, "a store has no gaps");
-_Static_assert(sizeof(dw_given_setup) == 372 && sizeof(dw_given_store) == 2308, "a number, and what is given");
-_Static_assert(sizeof(dw_called) == 2312 && sizeof(dw_listed) == 2312, "an answer, and a store");
-_Static_assert(sizeof(dw_text) == 384, "an answer, an offset, and a setup");
+/* ---- Sizes: what each struct takes, said anew from the most of each thing, so that a gap is seen. One may lie after the
+ * last field alone, where the struct's alignment asks for it. */
+
+#define NUMBERS(count) ((count) * sizeof(uint32_t))
+#define ALIGNED(type, bytes) (((bytes) + _Alignof(type) - 1) / _Alignof(type) * _Alignof(type))
+
+enum {
+    COUNTS = 4, /* of desks, classes, processes, files */
+    SETUP_BYTES = ALIGNED(uint32_t, NUMBERS(COUNTS) + DW_DESKS * DW_CLASSES + DW_PROCESSES + DW_FILES),
+    STORE_BYTES = ALIGNED(uint32_t, NUMBERS(DW_FILES) + NUMBERS(DW_FILES) + DW_FILES * DW_PROCESSES),
+    ANSWER_BYTES = NUMBERS(DW_ANSWER_WIDTH),
+    TEXT_BYTES = ALIGNED(size_t, ANSWER_BYTES + sizeof(size_t) + SETUP_BYTES)
+};
+
+_Static_assert(sizeof(dw_setup) == SETUP_BYTES, "the counts, and a byte for each right, process and file");
+_Static_assert(sizeof(dw_store) == STORE_BYTES, "a holder and a figure for each file, and the marks");
+_Static_assert(sizeof(dw_given_setup) == NUMBERS(1) + SETUP_BYTES, "a number, and the setup that is given");
+_Static_assert(sizeof(dw_given_store) == NUMBERS(1) + STORE_BYTES, "a number, and the store that is given");
+_Static_assert(sizeof(dw_answer) == ANSWER_BYTES, "a kind and a value");
+_Static_assert(sizeof(dw_called) == ANSWER_BYTES + STORE_BYTES, "an answer, and a store");
+_Static_assert(sizeof(dw_listed) == ANSWER_BYTES + STORE_BYTES, "an answer, and a store");
+_Static_assert(sizeof(dw_text) == TEXT_BYTES, "an answer, an offset, and a setup");
 
 /* ---- Counting. One group of checks passes or fails as a whole; its first failures are printed. */
 
@@ -28,6 +45,8 @@ static int faults;
 
 /* ---- Values. */
 
+#define LEN(entries) (sizeof(entries) / sizeof(entries)[0])
+
 static uint32_t state = 1;
 
 /* Numbers below a bound in no order, the same in each run. */
@@ -40,7 +59,11 @@ static uint32_t below(uint32_t bound)
 }
 
 /* Counts that differ from each other and from the most. */
-enum { D = 13, T = 11, P = 61, F = 29 };
+enum { D = DW_DESKS - 3, T = DW_CLASSES - 5, P = DW_PROCESSES - 3, F = DW_FILES - 3 };
+
+/* The part setup steps through the desks by five and through the classes by three. */
+_Static_assert(D % 5 != 0 && P >= D && T % 3 != 0 && F >= T, "each desk has a process, and each class a file");
+_Static_assert(DW_PROCESSES <= DW_RIGHTS && DW_FILES <= DW_RIGHTS, "room for the rights is room for each run of a setup");
 
 /* No two desks have the same rights, and no two classes give the same. */
 static uint8_t right_at(uint32_t d, uint32_t t)
@@ -61,9 +84,9 @@ static dw_setup part_setup(void)
         for (uint32_t t = 0; t < T; t++)
             s.rights[d * DW_CLASSES + t] = right_at(d, t);
     for (uint32_t p = 0; p < P; p++)
-        s.desk_of[p] = (uint8_t)((p * 5 + p / 13) % D);
+        s.desk_of[p] = (uint8_t)((p * 5 + p / D) % D);
     for (uint32_t f = 0; f < F; f++)
-        s.class_of[f] = (uint8_t)((f * 3 + f / 11) % T);
+        s.class_of[f] = (uint8_t)((f * 3 + f / T) % T);
     return s;
 }
 
@@ -89,17 +112,19 @@ static dw_store blank_store(void)
     return m;
 }
 
+/* Open marks in no order come again after so many: a processor learns these by heart and guesses right, while with more of
+ * them each mark would take longer. It is a prime, so that no two files have the same. */
+enum { MARKS_APART = 251 };
+
 /* Each figure another, and open marks in no order. */
 static dw_store opened_store(void)
 {
-    dw_store m;
+    dw_store m = blank_store();
 
-    for (uint32_t f = 0; f < DW_FILES; f++) {
-        m.holders[f] = 0;
+    for (uint32_t f = 0; f < DW_FILES; f++)
         m.figures[f] = 0x01020304u * (f + 1) + 0x80u;
-        for (uint32_t p = 0; p < DW_PROCESSES; p++)
-            m.marks[DW_MARK(f, p)] = (uint8_t)below(2);
-    }
+    for (uint32_t i = 0; i < DW_MARKS; i++)
+        m.marks[i] = i < MARKS_APART ? (uint8_t)below(2) : m.marks[i - MARKS_APART];
     return m;
 }
 
@@ -130,6 +155,39 @@ static int is_answer(dw_answer a, uint32_t kind, uint32_t value)
 static int same_store(const dw_store *one, const dw_store *other)
 {
     return memcmp(one, other, sizeof *one) == 0;
+}
+
+/* ---- The places that are tried. A judging or a call looks at the whole store, so one for each mark, or for each file,
+ * would take a time that grows faster than the marks do. A sample is tried instead, of the same number whatever the sizes
+ * are: the edges, before and past the counts of the part setup, each with each, and then places in no order. */
+
+enum { EDGES = 4, CORNERS = EDGES * EDGES, PLACES = 256, FILES_TRIED = 16 };
+
+struct place {
+    uint32_t f, p;
+};
+
+static uint32_t file_tried(uint32_t i)
+{
+    static const uint32_t edges[EDGES] = {0, F - 1, F, DW_FILES - 1};
+
+    return i < EDGES ? edges[i] : below(DW_FILES);
+}
+
+static uint32_t process_tried(uint32_t i)
+{
+    static const uint32_t edges[EDGES] = {0, P - 1, P, DW_PROCESSES - 1};
+
+    return i < EDGES ? edges[i] : below(DW_PROCESSES);
+}
+
+static struct place place_tried(uint32_t i)
+{
+    struct place at;
+
+    at.f = file_tried(i < CORNERS ? i / EDGES : EDGES);
+    at.p = process_tried(i < CORNERS ? i % EDGES : EDGES);
+    return at;
 }
 
 /* ---- Guards: bytes around a lent place, which must be there afterwards as before. */
@@ -199,17 +257,26 @@ static void reads_counts(void)
     count_is_read(&s, &s.files, DW_FILES);
 }
 
+/* A route from a desk to itself is refused with 13, unless the setup is with 15. It makes no store, so there is time to ask
+ * it of every entry. */
+static uint32_t own_route_refusal(const dw_setup *s)
+{
+    static uint32_t none[1];
+
+    return dw_route(*s, 0, 0, none, 0).value;
+}
+
 /* An entry takes its greatest value, and no greater one. */
 static void entry_is_read(dw_setup *s, uint8_t *entry, uint32_t most)
 {
     uint8_t was = *entry;
 
     *entry = (uint8_t)most;
-    CHECK(fresh_refusal(s) == 0);
+    CHECK(own_route_refusal(s) == 13);
     *entry = (uint8_t)(most + 1);
-    CHECK(fresh_refusal(s) == 15);
+    CHECK(own_route_refusal(s) == 15);
     *entry = 255;
-    CHECK(fresh_refusal(s) == 15);
+    CHECK(own_route_refusal(s) == 15);
     *entry = was;
 }
 
@@ -227,21 +294,44 @@ static void reads_entries(void)
         entry_is_read(&s, &s.class_of[f], f < F ? T - 1 : 0);
 }
 
-/* OPEN shows R and LOCK shows W, for each process and file, so for each right of each desk on each class. */
+/* OPEN shows R and LOCK shows W. */
+static void right_is_read(const dw_setup *s, uint32_t p, uint32_t f)
+{
+    uint8_t right = right_of(s, p, f);
+    dw_called opened = dw_call(*s, blank_store(), DW_OPEN, p, f, 0);
+    dw_called locked = dw_call(*s, blank_store(), DW_LOCK, p, f, 0);
+
+    CHECK(opened.store.marks[DW_MARK(f, p)] == (right & DW_R ? 1 : 0));
+    CHECK(locked.store.holders[f] == (right & DW_W ? p + 1 : 0));
+}
+
+/* Some entry, from anywhere on, that has this value. */
+static uint32_t one_with(const uint8_t *entries, uint32_t count, uint32_t value)
+{
+    uint32_t at = below(count);
+
+    while (entries[at] != value)
+        at = (at + 1) % count;
+    return at;
+}
+
+/* Each right of each desk on each class, by some process of the one and some file of the other; then the corners. */
 static void reads_rights(void)
 {
     dw_setup s = part_setup();
-    dw_store m = blank_store();
 
-    for (uint32_t p = 0; p < P; p++)
-        for (uint32_t f = 0; f < F; f++) {
-            uint8_t right = right_of(&s, p, f);
-            dw_called opened = dw_call(s, m, DW_OPEN, p, f, 0);
-            dw_called locked = dw_call(s, m, DW_LOCK, p, f, 0);
+    for (uint32_t d = 0; d < D; d++)
+        for (uint32_t t = 0; t < T; t++) {
+            uint32_t p = one_with(s.desk_of, P, d), f = one_with(s.class_of, F, t);
 
-            CHECK(opened.store.marks[DW_MARK(f, p)] == (right & DW_R ? 1 : 0));
-            CHECK(locked.store.holders[f] == (right & DW_W ? p + 1 : 0));
+            right_is_read(&s, p, f);
         }
+    for (uint32_t i = 0; i < CORNERS; i++) {
+        struct place at = place_tried(i);
+
+        if (at.p < P && at.f < F)
+            right_is_read(&s, at.p, at.f);
+    }
 }
 
 /* ---- What the library reads of a store. */
@@ -252,28 +342,30 @@ static void reads_figures_and_marks(void)
     dw_setup s = whole_setup();
     dw_store m = opened_store();
 
-    for (uint32_t f = 0; f < DW_FILES; f++)
-        for (uint32_t p = 0; p < DW_PROCESSES; p++) {
-            dw_answer a = dw_call(s, m, DW_READ, p, f, 0).answer;
+    for (uint32_t i = 0; i < PLACES; i++) {
+        struct place at = place_tried(i);
+        dw_answer a = dw_call(s, m, DW_READ, at.p, at.f, 0).answer;
 
-            if (m.marks[DW_MARK(f, p)])
-                CHECK(is_answer(a, DW_FIGURE, m.figures[f]));
-            else
-                CHECK(is_answer(a, DW_NOTHING, 0));
-        }
+        if (m.marks[DW_MARK(at.f, at.p)])
+            CHECK(is_answer(a, DW_FIGURE, m.figures[at.f]));
+        else
+            CHECK(is_answer(a, DW_NOTHING, 0));
+    }
 }
 
+/* TESTLOCK answers yes to the file's own holder, and to no other. */
 static void reads_holders(void)
 {
     dw_setup s = whole_setup();
     dw_store m = locked_store();
 
-    for (uint32_t f = 0; f < DW_FILES; f++)
-        for (uint32_t p = 0; p < DW_PROCESSES; p++) {
-            dw_answer a = dw_call(s, m, DW_TESTLOCK, p, f, 0).answer;
+    for (uint32_t i = 0; i < PLACES; i++) {
+        struct place at = place_tried(i);
+        uint32_t holder = m.holders[at.f] - 1;
 
-            CHECK(is_answer(a, m.holders[f] == p + 1 ? DW_YES : DW_NO, 0));
-        }
+        CHECK(is_answer(dw_call(s, m, DW_TESTLOCK, holder, at.f, 0).answer, DW_YES, 0));
+        CHECK(is_answer(dw_call(s, m, DW_TESTLOCK, at.p, at.f, 0).answer, at.p == holder ? DW_YES : DW_NO, 0));
+    }
 }
 
 /* Whether a store with one number changed still fits. */
@@ -287,33 +379,55 @@ static uint32_t judged_with(const dw_setup *s, dw_store *m, uint32_t *number, ui
     return refusal;
 }
 
-static void judges_marks(const dw_setup *s, dw_store *m, uint32_t f)
+static void judges_numbers(const dw_setup *s, dw_store *m, uint32_t f)
 {
-    for (uint32_t p = 0; p < DW_PROCESSES; p++) {
-        uint8_t *mark = &m->marks[DW_MARK(f, p)];
+    uint32_t p = f * 2 % P;
 
-        *mark = 1;
-        CHECK(dw_judge(*s, *m) == (f < F && p < P && right_of(s, p, f) & DW_R ? 0 : 16));
-        *mark = 2;
-        CHECK(dw_judge(*s, *m) == 16);
-        *mark = 0;
-    }
+    CHECK(judged_with(s, m, &m->figures[f], 0xFFFFFFFFu) == (f < F ? 0 : 16));
+    CHECK(judged_with(s, m, &m->holders[f], P + 1) == 16);
+    CHECK(judged_with(s, m, &m->holders[f], p + 1) == (f < F && right_of(s, p, f) & DW_W ? 0 : 16));
 }
 
-/* Each number of each file, before and past the files, by whether the store still fits. */
+static void judges_mark(const dw_setup *s, dw_store *m, uint32_t f, uint32_t p)
+{
+    uint8_t *mark = &m->marks[DW_MARK(f, p)];
+
+    *mark = 1;
+    CHECK(dw_judge(*s, *m) == (f < F && p < P && right_of(s, p, f) & DW_R ? 0 : 16));
+    *mark = 2;
+    CHECK(dw_judge(*s, *m) == 16);
+    *mark = 0;
+}
+
+/* Each file has a figure, is open for all that may read it, and is locked by the last that may write it. */
+static dw_store fullest_store(const dw_setup *s)
+{
+    dw_store m = blank_store();
+
+    for (uint32_t f = 0; f < s->files; f++) {
+        m.figures[f] = 0xFFFFFFFFu;
+        for (uint32_t p = 0; p < s->processes; p++) {
+            m.holders[f] = right_of(s, p, f) & DW_W ? p + 1 : m.holders[f];
+            m.marks[DW_MARK(f, p)] = right_of(s, p, f) & DW_R ? 1 : 0;
+        }
+    }
+    return m;
+}
+
+/* All that may be set fits at once; then one number or mark by itself, before and past the files, fits or does not. */
 static void judges_every_field(void)
 {
     dw_setup s = part_setup();
     dw_store m = blank_store();
 
     CHECK(dw_judge(s, m) == 0);
-    for (uint32_t f = 0; f < DW_FILES; f++) {
-        uint32_t p = f * 2;
+    CHECK(dw_judge(s, fullest_store(&s)) == 0);
+    for (uint32_t i = 0; i < FILES_TRIED; i++)
+        judges_numbers(&s, &m, file_tried(i));
+    for (uint32_t i = 0; i < PLACES; i++) {
+        struct place at = place_tried(i);
 
-        CHECK(judged_with(&s, &m, &m.figures[f], 0xFFFFFFFFu) == (f < F ? 0 : 16));
-        CHECK(judged_with(&s, &m, &m.holders[f], P + 1) == 16);
-        CHECK(judged_with(&s, &m, &m.holders[f], p + 1) == (f < F && right_of(&s, p, f) & DW_W ? 0 : 16));
-        judges_marks(&s, &m, f);
+        judges_mark(&s, &m, at.f, at.p);
     }
 }
 
@@ -482,7 +596,9 @@ static void calls_change_one_field(void)
     dw_setup s = whole_setup();
     dw_store m = locked_store();
 
-    for (uint32_t f = 0; f < DW_FILES; f++) {
+    for (uint32_t i = 0; i < FILES_TRIED; i++) {
+        uint32_t f = file_tried(i);
+
         holder_calls(&s, &m, f);
         other_calls(&s, &m, f);
     }
@@ -511,13 +627,13 @@ static void refused_calls_change_nothing(void)
 
 static struct guarded_numbers list, room;
 
-enum { CALLS_LEN = sizeof list.numbers / sizeof list.numbers[0] };
+enum { CALLS_LEN = LEN(list.numbers) };
 
 /* Any calls: most have numbers that exist, and some have not. */
 static void make_list(void)
 {
     for (uint32_t i = 0; i < CALLS_LEN; i += DW_CALL_WIDTH) {
-        uint32_t op = below(9), f = below(DW_FILES);
+        uint32_t op = below(DW_COPY + 1), f = below(DW_FILES);
 
         list.numbers[i] = op;
         list.numbers[i + 1] = below(DW_PROCESSES + 1);
@@ -570,7 +686,7 @@ static void list_is_its_calls(dw_setup s, dw_store m, uint32_t count, uint32_t s
         const uint32_t *n = calls + i * DW_CALL_WIDTH;
         dw_called called = dw_call(s, m, n[0], n[1], n[2], n[3]);
 
-        CHECK(is_answer(called.answer, answers[2 * i], answers[2 * i + 1]));
+        CHECK(is_answer(called.answer, answers[DW_ANSWER_WIDTH * i], answers[DW_ANSWER_WIDTH * i + 1]));
         m = called.store;
     }
     CHECK(same_store(&listed.store, &m));
@@ -606,17 +722,18 @@ static void lists_keep_to_their_room(void)
 
 static void refused_lists_write_nothing(void)
 {
+    enum { TWO_CALLS = 2 * DW_CALL_WIDTH, TWO_ANSWERS = 2 * DW_ANSWER_WIDTH };
     dw_setup s = whole_setup();
     dw_store m = opened_store();
 
     make_list();
-    list_is_refused(s, m, 9, 64, 10);
+    list_is_refused(s, m, TWO_CALLS + 1, CALLS_LEN, 10);
     list_is_refused(s, m, (DW_CALLS + 1) * DW_CALL_WIDTH, CALLS_LEN, 10);
-    list_is_refused(s, m, 8, 3, 11);
+    list_is_refused(s, m, TWO_CALLS, TWO_ANSWERS - 1, 11);
     m.marks[DW_MARK(3, 5)] = 2;
-    list_is_refused(s, m, 9, 0, 16);
+    list_is_refused(s, m, TWO_CALLS + 1, 0, 16);
     s.files = 0;
-    list_is_refused(s, m, 9, 0, 15);
+    list_is_refused(s, m, TWO_CALLS + 1, 0, 15);
 }
 
 /* ---- Routes. */
@@ -663,8 +780,8 @@ static void routes_keep_to_their_room(void)
                                         DW_OPEN,   1, 0, 0, DW_READ,  1, 0, 0};
     dw_setup s = trial_setup();
 
-    route_is(s, 0, 2, DW_ROUTE_NUMBERS, DW_ROUTE, 9, two_links, sizeof two_links / sizeof two_links[0]);
-    route_is(s, 0, 1, DW_ROUTE_NUMBERS + 5, DW_ROUTE, 5, one_link, sizeof one_link / sizeof one_link[0]);
+    route_is(s, 0, 2, DW_ROUTE_NUMBERS, DW_ROUTE, DW_ROUTE_CALLS(2), two_links, LEN(two_links));
+    route_is(s, 0, 1, DW_ROUTE_NUMBERS + 5, DW_ROUTE, DW_ROUTE_CALLS(1), one_link, LEN(one_link));
     route_is(s, 2, 0, DW_ROUTE_NUMBERS, DW_NO_ROUTE, 0, one_link, 0);
     route_is(s, 1, 1, 0, DW_REFUSED, 13, one_link, 0);
     route_is(s, 3, 3, 0, DW_REFUSED, 12, one_link, 0);
@@ -676,15 +793,20 @@ static void routes_keep_to_their_room(void)
 
 /* ---- Texts. The trial setup and two calls, with a guard right past the last byte. */
 
-static struct guarded_text {
-    uint8_t before[GUARD];
-    uint8_t bytes[512];
-    uint8_t after[GUARD];
-} text;
+#define LAST_FILE "file\t1\t1\n"
+#define CALLS_LINE "calls\t1\n"
+#define LAST_CALL "testlock\t2\t1\n"
+#define BYTES(line) (sizeof(line) - 1)
 
 static const char setup_lines[] = "store\t1\t3\t2\t3\t2\naccess\t0\t0\tW\naccess\t1\t0\tR\naccess\t1\t1\tW\n"
-                                  "access\t2\t1\tR\nprocess\t0\t0\nprocess\t1\t1\nprocess\t2\t2\nfile\t0\t0\nfile\t1\t1\n";
-static const char call_lines[] = "calls\t1\nwrite\t4294967295\t7\t8\ntestlock\t2\t1\n";
+                                  "access\t2\t1\tR\nprocess\t0\t0\nprocess\t1\t1\nprocess\t2\t2\nfile\t0\t0\n" LAST_FILE;
+static const char call_lines[] = CALLS_LINE "write\t4294967295\t7\t8\n" LAST_CALL;
+
+static struct guarded_text {
+    uint8_t before[GUARD];
+    uint8_t bytes[BYTES(setup_lines) + BYTES(call_lines)];
+    uint8_t after[GUARD];
+} text;
 
 /* Puts bytes at the end of the text's place and answers where they start. */
 static uint8_t *make_text(const char *one, const char *other)
@@ -723,27 +845,28 @@ static void setups_are_read(void)
 
     memset(&none, 0, sizeof none);
     text_is(dw_read_alone(at, len_from(at)), 0, 0, 0, &s);
-    text_is(dw_read_alone(at, len_from(at) - 1), DW_REFUSED, 14, len_from(at) - 9, &none);
+    text_is(dw_read_alone(at, len_from(at) - 1), DW_REFUSED, 14, len_from(at) - BYTES(LAST_FILE), &none);
     text_is(dw_read_alone(at, 0), DW_REFUSED, 14, 0, &none);
-    at = make_text(setup_lines, "calls\t1\n");
-    text_is(dw_read_alone(at, len_from(at)), DW_REFUSED, 14, len_from(at) - 8, &none);
+    at = make_text(setup_lines, CALLS_LINE);
+    text_is(dw_read_alone(at, len_from(at)), DW_REFUSED, 14, len_from(at) - BYTES(CALLS_LINE), &none);
 }
 
 /* The calls go to the front of the room and no further; a refusal leaves it as it was. */
 static void texts_keep_to_their_room(void)
 {
     static const uint32_t expected[] = {DW_WRITE, 0xFFFFFFFFu, 7, 8, DW_TESTLOCK, 2, 1, 0};
-    enum { WRITTEN = sizeof expected / sizeof expected[0], SPARE = CALLS_LEN - DW_CALL_NUMBERS };
+    enum { WRITTEN = LEN(expected), SPARE = CALLS_LEN - DW_CALL_NUMBERS };
     dw_setup s = trial_setup(), none;
     uint8_t *at = make_text(setup_lines, call_lines);
     uint32_t *front = last_numbers(&room, DW_CALL_NUMBERS);
 
     memset(&none, 0, sizeof none);
     make_room();
-    text_is(dw_read_with_calls(at, len_from(at) - 1, front, DW_CALL_NUMBERS), DW_REFUSED, 14, len_from(at) - 13, &none);
+    text_is(dw_read_with_calls(at, len_from(at) - 1, front, DW_CALL_NUMBERS), DW_REFUSED, 14,
+            len_from(at) - BYTES(LAST_CALL), &none);
     text_is(dw_read_with_calls(at, len_from(at), front + 1, DW_CALL_NUMBERS - 1), DW_REFUSED, 11, 0, &none);
     room_is_untouched(0, CALLS_LEN);
-    text_is(dw_read_with_calls(at, len_from(at), front, DW_CALL_NUMBERS), 0, 2, 0, &s);
+    text_is(dw_read_with_calls(at, len_from(at), front, DW_CALL_NUMBERS), 0, WRITTEN / DW_CALL_WIDTH, 0, &s);
     CHECK(memcmp(front, expected, sizeof expected) == 0);
     room_is_untouched(0, SPARE);
     room_is_untouched(SPARE + WRITTEN, CALLS_LEN);
@@ -778,7 +901,7 @@ int main(void)
 {
     int passed = 0, failed = 0;
 
-    for (size_t i = 0; i < sizeof groups / sizeof groups[0]; i++) {
+    for (size_t i = 0; i < LEN(groups); i++) {
         faults = 0;
         groups[i].run();
         if (faults == 0)

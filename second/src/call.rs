@@ -3,7 +3,7 @@
 use crate::refusal::Refusal;
 use crate::rules::{Rules, Turn};
 use crate::setup::Setup;
-use crate::sizes::{CALL_WIDTH, PROCESSES};
+use crate::sizes::{ANSWER_WIDTH, CALL_WIDTH, PROCESSES};
 use crate::store::{judge, mark_at, Store, OPEN};
 
 /// The codes of the eight calls.
@@ -48,7 +48,7 @@ pub enum Answer {
 
 impl Answer {
     /// The two numbers of an answer.
-    pub fn numbers(self) -> [u32; 2] {
+    pub fn numbers(self) -> [u32; ANSWER_WIDTH] {
         match self {
             Answer::Nothing => [0, 0],
             Answer::Figure(figure) => [1, figure],

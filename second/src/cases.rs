@@ -7,10 +7,14 @@ use crate::refusal::Refusal;
 use crate::route::{report, Report};
 use crate::rules::{Rules, TURNS};
 use crate::setup::{accept, Setup, SetupBytes};
+use crate::sizes::{ANSWER_WIDTH, CALL_WIDTH};
 use crate::store::{fresh, Store};
 
 const RULES: Rules = Rules::UNTURNED;
 const UNTOUCHED: u32 = 77;
+
+/// The room for a route by document 01's own number, so that the one that is reckoned is held to it.
+const ROUTE_ROOM: usize = 244;
 
 const PROGRAM: &str = "store\t1\t3\t2\t3\t2\n\
     access\t0\t0\tW\naccess\t1\t0\tR\naccess\t1\t1\tW\naccess\t2\t1\tR\n\
@@ -46,7 +50,7 @@ fn two_desks() -> Setup {
 }
 
 /// The answers of calls run one after the other from a fresh store.
-fn answers(setup: &Setup, calls: &[[u32; 4]]) -> Vec<[u32; 2]> {
+fn answers(setup: &Setup, calls: &[[u32; CALL_WIDTH]]) -> Vec<[u32; ANSWER_WIDTH]> {
     let mut store = fresh(RULES, setup).unwrap();
     let mut given = Vec::new();
     for call in calls {
@@ -54,14 +58,14 @@ fn answers(setup: &Setup, calls: &[[u32; 4]]) -> Vec<[u32; 2]> {
         given.push(answer.numbers());
         store = next;
     }
-    let mut room = vec![0; calls.len() * 2];
+    let mut room = vec![0; calls.len() * ANSWER_WIDTH];
     let (done, last) = run(RULES, setup, &Store::FRESH, &calls.concat(), &mut room);
     assert_eq!((done, last), (Ok(calls.len() as u32), store));
     assert_eq!(room, given.concat());
     given
 }
 
-const NOTHING: [u32; 2] = [0, 0];
+const NOTHING: [u32; ANSWER_WIDTH] = [0, 0];
 
 #[test]
 fn case_1() {
@@ -100,37 +104,37 @@ fn case_8() {
     let calls = [[5, 0, 0, 0], [3, 1, 0, 0], [7, 1, 0, 0]];
     assert_eq!(answers(&two_desks(), &calls), [NOTHING, NOTHING, [2, 0]]);
     assert_eq!(answers(&two_desks(), &calls[1..]), [NOTHING, [2, 0]]);
-    assert_eq!(report(RULES, &two_desks(), 0, 1, &mut [0; 244]), Report::NoRoute);
+    assert_eq!(report(RULES, &two_desks(), 0, 1, &mut [0; ROUTE_ROOM]), Report::NoRoute);
 }
 
 #[test]
 fn case_9() {
-    let mut room = [UNTOUCHED; 250];
+    let mut room = [UNTOUCHED; ROUTE_ROOM + 6];
     assert_eq!(report(RULES, &q(), 0, 2, &mut room), Report::Route(9));
     let list = [
         3, 0, 0, 0, 2, 0, 0, 1, 4, 0, 0, 0, 5, 1, 0, 0, 3, 1, 1, 0, 8, 1, 0, 1, 4, 1, 1, 0, 5, 2,
         1, 0, 1, 2, 1, 0,
     ];
-    assert_eq!(room[..36], list);
-    assert!(room[36..].iter().all(|&number| number == UNTOUCHED));
+    assert_eq!(room[..list.len()], list);
+    assert!(room[list.len()..].iter().all(|&number| number == UNTOUCHED));
 }
 
 #[test]
 fn case_10() {
-    let mut room = [UNTOUCHED; 244];
+    let mut room = [UNTOUCHED; ROUTE_ROOM];
     assert_eq!(report(RULES, &q(), 2, 0, &mut room), Report::NoRoute);
-    assert_eq!(room, [UNTOUCHED; 244]);
+    assert_eq!(room, [UNTOUCHED; ROUTE_ROOM]);
     assert_eq!(report(RULES, &q(), 0, 1, &mut room), Report::Route(5));
 }
 
 #[test]
 fn case_11() {
-    let mut room = [UNTOUCHED; 244];
+    let mut room = [UNTOUCHED; ROUTE_ROOM];
     let same = Report::Refused(Refusal::SameRouteDesks);
     assert_eq!(report(RULES, &q(), 1, 1, &mut room), same);
     let short = Report::Refused(Refusal::RoomTooShort);
-    assert_eq!(report(RULES, &q(), 0, 2, &mut room[..243]), short);
-    assert_eq!(room, [UNTOUCHED; 244]);
+    assert_eq!(report(RULES, &q(), 0, 2, &mut room[..ROUTE_ROOM - 1]), short);
+    assert_eq!(room, [UNTOUCHED; ROUTE_ROOM]);
 }
 
 #[test]

@@ -17,7 +17,7 @@ fn refusal_of_list(
 ) -> Result<(), Refusal> {
     judge(rules, setup, store)?;
     let count = calls.len() / CALL_WIDTH;
-    let most = CALLS + usize::from(rules.turned(Turn::ListOf1025Calls));
+    let most = CALLS + usize::from(rules.turned(Turn::ListOneCallMore));
     let odd = calls.len() != count * CALL_WIDTH || count > most;
     let short = answers.len() < count * ANSWER_WIDTH;
     let mut order = [(odd, Refusal::WrongLength), (short, Refusal::RoomTooShort)];

@@ -4,7 +4,7 @@ use crate::call::{code, Call};
 use crate::refusal::Refusal;
 use crate::rules::{Rules, Turn};
 use crate::setup::{right_at, Setup, R, W};
-use crate::sizes::{CALL_WIDTH, DESKS, ROUTE_NUMBERS};
+use crate::sizes::{ANSWER_WIDTH, CALL_WIDTH, DESKS, ROUTE_NUMBERS};
 
 /// The figure that the first desk of a route writes.
 const SIGNAL: u32 = 1;
@@ -19,7 +19,7 @@ pub enum Report {
 
 impl Report {
     /// The kind and the value of a report.
-    pub fn numbers(self) -> [u32; 2] {
+    pub fn numbers(self) -> [u32; ANSWER_WIDTH] {
         match self {
             Report::NoRoute => [0, 0],
             Report::Route(calls) => [1, calls],

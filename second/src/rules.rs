@@ -40,7 +40,7 @@ pub enum Turn {
     HolderRightUnjudged,
     MarkOfTwoFits,
     ListStopsAtRefusal,
-    ListOf1025Calls,
+    ListOneCallMore,
     // Tails of lent runs.
     AnswersTailCleared,
     RouteTailCleared,
@@ -102,7 +102,7 @@ pub const TURNS: [Turn; 55] = [
     Turn::HolderRightUnjudged,
     Turn::MarkOfTwoFits,
     Turn::ListStopsAtRefusal,
-    Turn::ListOf1025Calls,
+    Turn::ListOneCallMore,
     Turn::AnswersTailCleared,
     Turn::RouteTailCleared,
     Turn::CallsTailCleared,

@@ -15,8 +15,13 @@ pub const ANSWER_WIDTH: usize = 2;
 /// The longest list in numbers, which is also the room that a call text asks for.
 pub const LIST_NUMBERS: usize = CALLS * CALL_WIDTH;
 
-/// The room that a route asks for: 61 calls.
-pub const ROUTE_NUMBERS: usize = 244;
+/// The most links in a chain with the fewest, since no desk is in it twice.
+pub const LINKS: usize = DESKS - 1;
+
+/// The calls of a route's list: so many for each link, and one more. The room that a route asks for holds the longest.
+pub const CALLS_A_LINK: usize = 4;
+pub const ROUTE_CALLS: usize = CALLS_A_LINK * LINKS + 1;
+pub const ROUTE_NUMBERS: usize = ROUTE_CALLS * CALL_WIDTH;
 
 /// Entries of the table of rights, and of open marks, whatever the counts are.
 pub const RIGHTS: usize = DESKS * CLASSES;

@@ -8,7 +8,7 @@ use second::call::{code, step, Answer, Call};
 use second::route::{chain, report, Report};
 use second::rules::Rules;
 use second::setup::Setup;
-use second::sizes::{ANSWER_WIDTH, CALL_WIDTH, DESKS, ROUTE_NUMBERS};
+use second::sizes::{ANSWER_WIDTH, CALLS_A_LINK, CALL_WIDTH, LINKS, ROUTE_NUMBERS};
 use second::store::Store;
 
 /// How many lists are searched for one setup and pair of desks.
@@ -27,7 +27,7 @@ pub struct Brute {
     pub routes_found: u64,
     pub route_lists: u64,
     /// For each number of links, how many were found, and how many there were.
-    pub by_links: [(u64, u64); DESKS],
+    pub by_links: [(u64, u64); LINKS + 1],
     /// A list that shows a difference where the report says that there is no route.
     pub contradiction: Option<(Setup, u32, u32, Vec<Call>)>,
     /// For the library: each pair's report, and some lists with A's calls and without.
@@ -129,7 +129,7 @@ impl Brute {
         match report(Rules::UNTURNED, &setup, a, b, &mut [0; ROUTE_NUMBERS]) {
             Report::NoRoute => self.search_silent(random, &setup, (a, b)),
             Report::Route(calls) => {
-                let links = (calls as usize - 1) / 4;
+                let links = (calls as usize - 1) / CALLS_A_LINK;
                 self.search_route(random, &setup, (a, b), links);
             }
             Report::Refused(_) => {}

@@ -9,13 +9,13 @@ use second::store::{mark_at, Store, OPEN};
 
 pub const COUNT_CAUSES: [&str; 8] = [
     "desks 0",
-    "desks past 16",
+    "desks past the most",
     "classes 0",
-    "classes past 16",
+    "classes past the most",
     "processes 0",
-    "processes past 64",
+    "processes past the most",
     "files 0",
-    "files past 32",
+    "files past the most",
 ];
 
 pub const SETUP_CAUSES: [&str; 15] = [

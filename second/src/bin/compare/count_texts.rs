@@ -80,16 +80,16 @@ const FAULTS: [(Line, &[Why], bool); 6] = [
     ),
 ];
 
-const TOO_LONG: &str = "14: the input is above 32,768 bytes";
-const NO_ROOM: &str = "11: room for calls below 4,096";
+const TOO_LONG: &str = "14: the input is above the most bytes";
+const NO_ROOM: &str = "11: room for calls too short";
 const FURTHER: &str = "14: a further line";
 
 /// How a text may look, whatever becomes of it, and which ways it goes then.
 const LOOKS: [(&str, [bool; 3]); 10] = [
     ("empty", [true; 3]),
     ("one byte", [true; 3]),
-    ("32,768 bytes", [true, true, false]),
-    ("32,769 bytes", [true, true, false]),
+    ("the most bytes", [true, true, false]),
+    ("one byte past the most", [true, true, false]),
     ("no LF anywhere", [true; 3]),
     ("only LFs", [true; 3]),
     ("a NUL", [true; 3]),
@@ -103,7 +103,7 @@ pub fn texts() -> Table {
     table.row("read", 50);
     let with_calls = [Some(2), Some(2), None];
     table.row_in("read, no call", &with_calls);
-    table.row_in("read, 1,024 calls", &with_calls);
+    table.row_in("read, the most calls", &with_calls);
     for cause in COUNT_CAUSES {
         table.row(&format!("1: {cause}"), 2);
     }
@@ -159,7 +159,7 @@ fn fault_name(line: Line, why: Why) -> String {
         Why::LowerDesk => "a lower desk",
         Why::LowerClass => "a lower class",
         Why::NumberNotDue => "a number not due",
-        Why::TooManyCalls => "the 1,025th",
+        Why::TooManyCalls => "one past the most",
         Why::RoomTooShort | Why::Counts | Why::FurtherLine => "another fault",
     };
     format!("{number}: {line} line, {why}")
@@ -230,7 +230,7 @@ fn meet_read(counts: &mut Counts, text: &[u8], way: usize) -> Option<(Setup, Vec
     counts.texts.met("read", way);
     match count as usize {
         0 => counts.texts.met("read, no call", way),
-        CALLS => counts.texts.met("read, 1,024 calls", way),
+        CALLS => counts.texts.met("read, the most calls", way),
         _ => {}
     }
     room.truncate(count as usize * CALL_WIDTH);

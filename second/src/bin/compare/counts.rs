@@ -8,7 +8,7 @@ use crate::count_texts;
 use crate::tally::Table;
 use second::refusal::Refusal;
 use second::setup::{Setup, SetupBytes};
-use second::sizes::{ANSWER_WIDTH, CALLS, CALL_WIDTH, DESKS, LIST_NUMBERS};
+use second::sizes::{ANSWER_WIDTH, CALLS, CALL_WIDTH, LIST_NUMBERS};
 use second::store::Store;
 
 /// The entries that judge a setup, in the columns of their table.
@@ -167,8 +167,8 @@ impl Counts {
             (true, false, false, true) => "16 before 11",
             (_, false, false, false) => return,
             (_, true, true, true) => "10 before 11",
-            (_, true, true, false) if length < LIST_NUMBERS => "10: not a multiple of 4",
-            (_, true, true, false) => "10: above 4,096 numbers",
+            (_, true, true, false) if length < LIST_NUMBERS => "10: not whole calls",
+            (_, true, true, false) => "10: above the most numbers",
             (_, true, false, true) if answers + 1 == enough => "11: short by one number",
             (_, true, false, true) => "11: shorter",
             _ => return self.meet_list_run(held, calls, answers),
@@ -181,8 +181,8 @@ impl Counts {
         self.lists.met(
             match count {
                 0 => "ran no call",
-                CALLS => "ran 1,024 calls",
-                _ => "ran 1 to 1,023 calls",
+                CALLS => "ran the most calls",
+                _ => "ran some calls",
             },
             0,
         );
@@ -238,11 +238,11 @@ fn stores() -> Table {
 fn lists() -> Table {
     let mut table = Table::new("Lists as a whole", &["met"]);
     table.row("ran no call", 10);
-    table.row("ran 1 to 1,023 calls", 500);
-    table.row("ran 1,024 calls", 5);
+    table.row("ran some calls", 500);
+    table.row("ran the most calls", 5);
     table.row("answers just enough", 100);
     table.row("answers with a tail", 100);
-    for name in ["10: not a multiple of 4", "10: above 4,096 numbers", "10 before 11"] {
+    for name in ["10: not whole calls", "10: above the most numbers", "10 before 11"] {
         table.row(name, 5);
     }
     for name in ["11: short by one number", "11: shorter", "15 before 10", "15 before 11"] {
@@ -251,6 +251,3 @@ fn lists() -> Table {
     ["16 before 10", "16 before 11"].iter().for_each(|name| table.row(name, 3));
     table
 }
-
-/// The longest chain that desks allow.
-pub const LINKS_MOST: usize = DESKS - 1;

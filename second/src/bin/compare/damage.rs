@@ -2,19 +2,19 @@
 
 use crate::random::Random;
 use crate::texts::{join, Line, MANY_DIGITS};
+use second::sizes::{DESKS, FILES, PROCESSES};
 
-/// What a field may be replaced with, but for the numbers of very many digits.
-const VALUES: [&[u8]; 32] = [
+/// Counts at a limit and past one, which a field may be replaced with.
+const LIMITS: [usize; 4] = [DESKS, DESKS + 1, FILES + 1, PROCESSES + 1];
+
+/// What else a field may be replaced with, but for the numbers of very many digits.
+const VALUES: [&[u8]; 28] = [
     b"",
     b"0",
     b"1",
     b"2",
     b"3",
     b"7",
-    b"16",
-    b"17",
-    b"33",
-    b"65",
     b"256",
     b"4294967295",
     b"4294967296",
@@ -102,10 +102,10 @@ pub fn each_line(lines: &[Line]) -> Vec<Vec<u8>> {
         .collect()
 }
 
-/// The values that a field may be replaced with.
+/// The values that a field may be replaced with, but for the numbers of very many digits.
 fn values() -> Vec<Vec<u8>> {
-    let long = [vec![b'1'; MANY_DIGITS], vec![b'0'; MANY_DIGITS]];
-    VALUES.iter().map(|value| value.to_vec()).chain(long).collect()
+    let limits = LIMITS.map(|limit| limit.to_string().into_bytes());
+    VALUES.iter().map(|value| value.to_vec()).chain(limits).collect()
 }
 
 /// The first and the last of each kind of line in the base, and calls of either shape.
@@ -113,10 +113,12 @@ const FIELD_PLACES: [usize; 12] = [0, 1, 4, 5, 7, 8, 9, 10, 11, 12, 16, 21];
 
 /// Texts with each value in each field of some lines.
 pub fn each_field(lines: &[Line]) -> Vec<Vec<u8>> {
+    let long = [vec![b'1'; MANY_DIGITS], vec![b'0'; MANY_DIGITS]];
+    let values = [values(), long.to_vec()].concat();
     let mut texts = Vec::new();
     for place in FIELD_PLACES.into_iter().filter(|&place| place < lines.len()) {
         for field in 0..field_count(&lines[place]) {
-            texts.extend(values().iter().map(|value| {
+            texts.extend(values.iter().map(|value| {
                 let mut lines = lines.to_vec();
                 lines[place] = with_field(&lines[place], field, value);
                 join(&lines)
@@ -137,7 +139,7 @@ pub fn text(random: &mut Random, lines: Vec<Line>) -> Vec<u8> {
         let value = if random.once_in(3) {
             random.wild().to_string().into_bytes()
         } else {
-            random.pick(&VALUES).to_vec()
+            random.pick(&values())
         };
         lines[place] = with_field(&lines[place], field, &value);
     }

@@ -25,9 +25,7 @@ impl Eyes {
     pub fn look(&mut self, family: &'static str, cases: &[Case], found: &[Found]) {
         for sight in self.sights.iter_mut().filter(|sight| sight.found.is_none()) {
             let rules = Rules { turn: sight.turn };
-            let other = |(case, found): (&Case, &Found)| {
-                found.as_deref() != Some(&case.due(rules).bytes[..])
-            };
+            let other = |(case, found): (&Case, &Found)| !case.due(rules).is(found);
             let place = cases.iter().zip(found).position(other);
             sight.found = place.map(|place| (family, sight.looked + place + 1));
             sight.looked += cases.len();

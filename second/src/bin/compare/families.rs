@@ -10,7 +10,7 @@ use crate::texts;
 use second::call::{step, Call};
 use second::rules::Rules;
 use second::setup::{right_at, Setup, SetupBytes, R, RW, W};
-use second::sizes::LIST_NUMBERS;
+use second::sizes::{CALL_WIDTH, LIST_NUMBERS, ROUTE_NUMBERS};
 use second::store::Store;
 
 pub struct Family {
@@ -213,7 +213,7 @@ fn two_desks() -> Setup {
 
 /// Every call of small numbers on a few stores of the two setups.
 fn every_call() -> Vec<(Box<Setup>, Box<Store>, Call)> {
-    const BEFORE: [[u32; 4]; 6] =
+    const BEFORE: [[u32; CALL_WIDTH]; 6] =
         [[5, 1, 0, 0], [3, 1, 0, 0], [2, 1, 0, 5], [5, 2, 1, 0], [3, 1, 1, 0], [5, 0, 0, 0]];
     let mut cases = Vec::new();
     for setup in [q(), two_desks()] {
@@ -241,7 +241,7 @@ fn in_place() -> Vec<Case> {
 
 /// Every pair of desks of Q, and one past them, with room just enough, one more, and one short.
 fn routes_of_q() -> Vec<Case> {
-    let rooms = [243, 244, 245];
+    let rooms = [ROUTE_NUMBERS - 1, ROUTE_NUMBERS, ROUTE_NUMBERS + 1];
     let cases = (0..4 * 4 * 3).map(|turn: usize| Case::Route {
         setup: Box::new(q()),
         a: (turn / 12) as u32,

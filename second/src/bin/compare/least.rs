@@ -1,7 +1,7 @@
 //! Cutting an input down to the least that still shows a difference.
 
 use crate::case::Case;
-use crate::programs::Programs;
+use crate::programs::{Found, Patience, Programs};
 use crate::simpler::{ways, Simpler};
 use second::rules::Rules;
 use second::sizes::CALL_WIDTH;
@@ -15,18 +15,18 @@ pub struct Cutter<'a> {
     pub rules: Rules,
     /// Cutting stops then, with the least that was reached.
     pub until: Instant,
+    pub patience: Patience,
 }
 
 impl Cutter<'_> {
-    /// For each case whether the programs differ on it; none does once the time is up.
+    /// For each case whether the programs differ on it. One that was not asked, since too many processes ended
+    /// before, may differ: it is put again before it is taken. None does once the time or the patience is over.
     fn differing(&self, cases: &[Case]) -> Vec<bool> {
-        if Instant::now() > self.until {
+        if Instant::now() > self.until || self.patience.is_over() {
             return vec![false; cases.len()];
         }
-        let found = self.programs.ask(cases);
-        let differs = |(case, found): (&Case, &Option<Vec<u8>>)| {
-            found.as_deref() != Some(&case.due(self.rules).bytes[..])
-        };
+        let found = self.programs.ask(cases, &self.patience);
+        let differs = |(case, found): (&Case, &Found)| !case.due(self.rules).is(found);
         cases.iter().zip(&found).map(differs).collect()
     }
 

@@ -48,7 +48,7 @@ fn main() -> ExitCode {
     let until = start + Duration::from_secs(options.minutes * SECONDS_A_MINUTE);
     let mut trial = Trial::new(options);
     let mut rounds = 0;
-    while rounds == 0 || Instant::now() < until {
+    while rounds == 0 || Instant::now() < until && !trial.patience.is_over() {
         trial.round(rounds);
         rounds += 1;
     }
@@ -75,6 +75,9 @@ fn end(trial: &Trial, checks: Vec<(String, bool)>) -> ExitCode {
     println!();
     if trial.options.turn != Turn::None {
         println!("a rule is turned ({:?}), so a difference is due", trial.options.turn);
+    }
+    if trial.patience.is_over() {
+        println!("the first program hung too often, so the rest was not asked");
     }
     for (name, holds) in &checks {
         println!("{} {name}", if *holds { "passed" } else { "FAILED" });

@@ -1,9 +1,29 @@
 //! A small source of random numbers, the same on every machine for the same seed.
 
+use second::sizes::{DESKS, FILES, PROCESSES};
+
 /// The constants of the generator splitmix64.
 const STEP: u64 = 0x9E37_79B9_7F4A_7C15;
 const MIX_ONE: u64 = 0xBF58_476D_1CE4_E5B9;
 const MIX_TWO: u64 = 0x94D0_49BB_1331_11EB;
+
+/// Numbers at which something ends: a right, a thing that can be counted, a byte, a number.
+const EDGES: [usize; 14] = [
+    0,
+    1,
+    2,
+    3,
+    DESKS - 1,
+    DESKS,
+    DESKS + 1,
+    FILES - 1,
+    FILES,
+    PROCESSES - 1,
+    PROCESSES,
+    255,
+    256,
+    u32::MAX as usize,
+];
 
 pub struct Random {
     state: u64,
@@ -45,11 +65,10 @@ impl Random {
 
     /// A 32-bit number that is likely to lie at an edge of something.
     pub fn wild(&mut self) -> u32 {
-        const EDGES: [u32; 14] = [0, 1, 2, 3, 15, 16, 17, 31, 32, 63, 64, 255, 256, u32::MAX];
         match self.below(4) {
             0 => self.next() as u32,
-            1 => (1u32 << self.below(32)).wrapping_sub(self.below(2) as u32),
-            _ => self.pick(&EDGES),
+            1 => (1u32 << self.below(u32::BITS as usize)).wrapping_sub(self.below(2) as u32),
+            _ => self.pick(&EDGES) as u32,
         }
     }
 }

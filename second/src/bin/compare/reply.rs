@@ -1,6 +1,8 @@
 //! A reply to a case as bytes, with names for its parts, so that a difference can be told in words.
 
+use crate::programs::Found;
 use second::setup::Setup;
+use second::sizes::{FILES, MARKS};
 use second::store::Store;
 
 /// The guards that the driver lays around each lent run.
@@ -15,8 +17,12 @@ pub const OUTPUT: &str = "output";
 const BEFORE: &str = "the guard before ";
 const AFTER: &str = "the guard after ";
 
-const WORD: usize = 4;
+/// The bytes of a number, and of a length.
+pub const WORD: usize = 4;
 const LENGTH: usize = 8;
+
+/// The bytes of a store: the holders, the figures, the marks.
+pub const STORE_BYTES: usize = 2 * FILES * WORD + MARKS;
 
 /// A part of a reply: its name, which guard of that name it is if it is one, the bytes of one entry,
 /// and how many bytes it has.
@@ -92,10 +98,16 @@ impl Reply {
         before.bytes(name, bytes).bytes(name, &guard).guarding(AFTER)
     }
 
+    /// Whether this very reply was found.
+    pub fn is(&self, found: &Found) -> bool {
+        found.as_ref() == Ok(&self.bytes)
+    }
+
     /// The first place where the bytes found are not those of this reply, in words.
-    pub fn difference(&self, found: Option<&[u8]>) -> String {
-        let Some(found) = found else {
-            return "the first program ended without a reply".to_string();
+    pub fn difference(&self, found: &Found) -> String {
+        let found = match found {
+            Ok(found) => found,
+            Err(lack) => return lack.told(),
         };
         if self.parts.iter().any(|part| part.name == OUTPUT) {
             return told_output(found, &self.bytes);

@@ -7,7 +7,7 @@ use crate::setups::{self, MOST};
 use second::call::{code, Call};
 use second::rules::Rules;
 use second::setup::{right_at, Setup};
-use second::sizes::{CALLS, CALL_WIDTH, INPUT_BYTES, LIST_NUMBERS};
+use second::sizes::{CALLS, CALL_WIDTH, CLASSES, FILES, INPUT_BYTES, LIST_NUMBERS, PROCESSES};
 use second::store::Store;
 use second::text::read_with_calls;
 
@@ -202,8 +202,8 @@ fn named(with_calls: bool) -> Vec<Vec<u8>> {
             join(&[lines.clone(), call_lines(&calls)].concat())
         }));
         let [_, full] = at_limits();
-        let most = call_lines(&[code::TESTLOCK, 63, 31, 0].repeat(CALLS));
-        texts.push(join(&[full, most].concat()));
+        let last = [code::TESTLOCK, PROCESSES as u32 - 1, FILES as u32 - 1, 0];
+        texts.push(join(&[full, call_lines(&last.repeat(CALLS))].concat()));
         texts.extend(large());
     }
     texts
@@ -231,8 +231,7 @@ fn large() -> Vec<Vec<u8>> {
 
 /// Pairs of faults in one line, where the order of the refusals decides.
 fn ordered(with_calls: bool) -> Vec<Vec<u8>> {
-    const LINES: [(usize, &str); 20] = [
-        (0, "store\t1\t0\t17\t65\t33"),
+    const LINES: [(usize, &str); 19] = [
         (0, "store\t2\t0\t2\t3\t2"),
         (0, "store\t1\t0\t2\t3\tx"),
         (1, "access\t3\t2\tR"),
@@ -258,7 +257,8 @@ fn ordered(with_calls: bool) -> Vec<Vec<u8>> {
         lines[place] = line.as_bytes().to_vec();
         join(&lines)
     };
-    LINES.into_iter().map(broken).collect()
+    let counts = format!("store\t1\t0\t{}\t{}\t{}", CLASSES + 1, PROCESSES + 1, FILES + 1);
+    [(0, &counts[..])].into_iter().chain(LINES).map(broken).collect()
 }
 
 /// A setup, and calls from a fresh store that meet every condition of every call.

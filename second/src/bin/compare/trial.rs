@@ -7,12 +7,13 @@ use crate::eyes::Eyes;
 use crate::families::{Family, FAMILIES};
 use crate::least::Cutter;
 use crate::options::Options;
-use crate::programs::{Found, Programs};
+use crate::programs::{Found, Lack, Patience, Programs, REPLY_LIMIT};
 use crate::random::Random;
+use crate::reply::{GUARD_WORDS, STORE_BYTES, WORD};
 use crate::telling::{tell, tell_setup};
 use second::call::Call;
 use second::rules::{Rules, Turn};
-use second::sizes::CALL_WIDTH;
+use second::sizes::{ANSWER_WIDTH, CALL_WIDTH};
 use std::time::{Duration, Instant};
 
 /// Cases that one process of the driver answers.
@@ -20,6 +21,11 @@ const BATCH: usize = 1_000;
 /// How many differences of a family are cut down and told, and how long each may take.
 const TOLD: u64 = 2;
 const CUTTING: Duration = Duration::from_secs(30);
+/// How often the first program may hang before it is asked no more.
+const HANGS: usize = 3;
+/// The same while an input is cut down: an input that hangs is put many times, so none may cost much.
+const CUTTING_LIMIT: Duration = Duration::from_secs(2);
+const CUTTING_HANGS: usize = 10;
 /// Setups that a round searches by brute force.
 const SEARCHES: usize = 3_000;
 
@@ -31,12 +37,14 @@ pub struct Result {
     pub family: &'static str,
     pub cases: u64,
     pub differences: u64,
+    pub unasked: u64,
     pub time: Duration,
 }
 
 pub struct Trial {
     pub options: Options,
     programs: Programs,
+    pub patience: Patience,
     rules: Rules,
     pub counts: Counts,
     pub results: Vec<Result>,
@@ -54,6 +62,7 @@ impl Trial {
                 sheets: options.sheets.clone(),
                 threads: options.threads,
             },
+            patience: Patience::new(REPLY_LIMIT, HANGS),
             rules: Rules { turn: options.turn },
             counts: Counts::new(),
             results: Vec::new(),
@@ -98,56 +107,68 @@ impl Trial {
     /// Puts a batch of cases to both programs, and hands back what the first gave.
     fn put(&mut self, family: &'static str, cases: &[Case]) -> Vec<Found> {
         let start = Instant::now();
-        let found = self.programs.ask(cases);
+        let found = self.programs.ask(cases, &self.patience);
         let mut differing = Vec::new();
+        let mut unasked = 0;
         for (case, found) in cases.iter().zip(&found) {
+            if *found == Err(Lack::NotAsked) {
+                unasked += 1;
+                continue;
+            }
             self.counts.meet(case);
-            if found.as_deref() != Some(&case.due(self.rules).bytes[..]) {
-                differing.push(case);
+            if !case.due(self.rules).is(found) {
+                differing.push((case, found));
             }
         }
-        let told = self.note(family, cases.len() as u64, differing.len() as u64);
-        differing.iter().take(told as usize).for_each(|case| self.tell_difference(family, case));
-        if differing.is_empty() && self.rules.turn == Turn::None {
+        let told = TOLD.saturating_sub(self.result(family).differences);
+        for (case, found) in differing.iter().take(told as usize) {
+            self.tell_difference(family, case, found);
+        }
+        let differences = differing.len() as u64;
+        if differences + unasked == 0 && self.rules.turn == Turn::None {
             self.eyes.look(family, cases, &found);
         }
-        let time = start.elapsed();
-        self.results.iter_mut().filter(|result| result.family == family).for_each(|result| {
-            result.time += time;
-        });
+        let result = self.result(family);
+        result.cases += cases.len() as u64;
+        result.differences += differences;
+        result.unasked += unasked;
+        result.time += start.elapsed();
         found
     }
 
-    /// Adds to a family's result; says how many more differences are to be told.
-    fn note(&mut self, family: &'static str, cases: u64, differences: u64) -> u64 {
-        if !self.results.iter().any(|result| result.family == family) {
+    /// What became of a family so far.
+    fn result(&mut self, family: &'static str) -> &mut Result {
+        let known = self.results.iter().position(|result| result.family == family);
+        let place = known.unwrap_or_else(|| {
             let time = Duration::ZERO;
-            self.results.push(Result { family, cases: 0, differences: 0, time });
-        }
-        let mut told = 0;
-        for result in self.results.iter_mut().filter(|result| result.family == family) {
-            told = TOLD.saturating_sub(result.differences);
-            result.cases += cases;
-            result.differences += differences;
-        }
-        told
+            self.results.push(Result { family, cases: 0, differences: 0, unasked: 0, time });
+            self.results.len() - 1
+        });
+        &mut self.results[place]
     }
 
-    fn tell_difference(&self, family: &str, case: &Case) {
+    /// Tells a case on which the programs differ: the least one, where that differs when it is put anew.
+    fn tell_difference(&self, family: &str, case: &Case, found: &Found) {
         let until = Instant::now() + CUTTING;
-        let cutter = Cutter { programs: &self.programs, rules: self.rules, until };
+        let patience = Patience::new(CUTTING_LIMIT, CUTTING_HANGS);
+        let cutter = Cutter { programs: &self.programs, rules: self.rules, until, patience };
         let least = cutter.least(case);
-        let found = self.programs.ask(std::slice::from_ref(&least));
-        let difference = least.due(self.rules).difference(found[0].as_deref());
-        println!("\nA difference in {family}, with seed {}, cut down:", self.options.seed);
-        println!("{}  {difference}", tell(&least));
+        let once = Patience::new(REPLY_LIMIT, 1);
+        let anew = &self.programs.ask(std::slice::from_ref(&least), &once)[0];
+        let (case, found, how) = match least.due(self.rules).is(anew) {
+            false => (&least, anew, "cut down"),
+            true => (case, found, "which did not come again"),
+        };
+        let difference = case.due(self.rules).difference(found);
+        println!("\nA difference in {family}, with seed {}, {how}:", self.options.seed);
+        println!("{}  {difference}", tell(case));
     }
 
     /// Runs each list that the first program's reports wrote, with A's calls and without.
     fn run_written(&mut self, random: &mut Random, cases: &[Case], found: &[Found]) {
         let mut lists = Vec::new();
         for (case, found) in cases.iter().zip(found) {
-            if let (Case::Route { setup, a, .. }, Some(found)) = (case, found) {
+            if let (Case::Route { setup, a, .. }, Ok(found)) = (case, found) {
                 let calls = written(found);
                 if !calls.is_empty() {
                     lists.push(list_case(random, setup, &calls));
@@ -190,10 +211,12 @@ impl Trial {
     /// What the families, and the searches, amount to: a name and whether it is so.
     pub fn checks(&self) -> Vec<(String, bool)> {
         let mut checks = Vec::new();
-        for Result { family, cases, differences, time } in &self.results {
+        for Result { family, cases, differences, unasked, time } in &self.results {
             let seconds = time.as_secs_f32();
-            let told = format!("{family}: {cases} cases, {differences} differ, {seconds:.1} s");
-            checks.push((told, *differences == 0));
+            let left = if *unasked > 0 { format!(", {unasked} not asked") } else { String::new() };
+            let told =
+                format!("{family}: {cases} cases, {differences} differ{left}, {seconds:.1} s");
+            checks.push((told, differences + unasked == 0));
         }
         let brute = &self.brute;
         let (silent, lists) = (brute.silent, brute.silent_lists);
@@ -239,13 +262,13 @@ impl Trial {
 
 /// The numbers of a reply at a place counted in numbers.
 fn number(found: &[u8], place: usize) -> Option<u32> {
-    let bytes = found.get(place * 4..place * 4 + 4)?;
+    let bytes = found.get(place * WORD..(place + 1) * WORD)?;
     Some(u32::from_le_bytes(bytes.try_into().ok()?))
 }
 
 /// The calls that a reply to a route case says were written.
 fn written(found: &[u8]) -> Vec<Call> {
-    const FIRST: usize = 2 + crate::reply::GUARD_WORDS;
+    const FIRST: usize = ANSWER_WIDTH + GUARD_WORDS;
     if number(found, 0) != Some(1) {
         return Vec::new();
     }
@@ -258,12 +281,12 @@ fn written(found: &[u8]) -> Vec<Call> {
 /// The figure that the last call of a list answered, by the first program's reply; else a number that none is.
 fn last_figure(case: &Case, found: &Found) -> u32 {
     const NO_FIGURE: u32 = 9;
-    const STORE_NUMBERS: usize = 2304 / 4;
-    let (Case::List { calls, .. }, Some(found)) = (case, found) else {
+    let (Case::List { calls, .. }, Ok(found)) = (case, found) else {
         return NO_FIGURE;
     };
-    let before = 2 + STORE_NUMBERS + crate::reply::GUARD_WORDS * 3 + calls.len();
-    let last = before + calls.len() / CALL_WIDTH * 2;
+    // The answer of the list, the store, the calls between guards, and the answers behind theirs.
+    let before = ANSWER_WIDTH + STORE_BYTES / WORD + GUARD_WORDS * 3 + calls.len();
+    let last = before + calls.len() / CALL_WIDTH * ANSWER_WIDTH;
     match (number(found, last - 2), number(found, last - 1)) {
         (Some(1), Some(figure)) => figure,
         _ => NO_FIGURE,
