@@ -1,21 +1,39 @@
--- Laws of the lowest process of a desk and the lowest file of a link.
+-- Laws of a setup's links: the desks that they run among, and the lowest process and the lowest file by which each acts.
 -- Assumes nothing.
 use Prim.Native.Nat.{ℕ, suc, _<_, _≤_}
-use mathlib.Core.Path.{_≡_, ap, sym, _∙_}
+use mathlib.Core.Path.{_≡_}
 use mathlib.Core.Bool.{true, _&&_, and-eq-true-iff}
+use mathlib.Core.Logic.{_≢_}
 use mathlib.Core.List.{List}
 use native.Mathlib.Omega.{arith}
 use borrow.Author.Tests.{eqb-true, eq-eqb}
 use lib.Dec.{eqb}
 use lib.ListN.{length}
-use Rattle.rules.specs.Sizes.{someBelow}
-use Rattle.rules.specs.Setups.{deskOf}
+use Rattle.rules.specs.Sizes.{mostDesks, someBelow}
+use Rattle.rules.specs.Setups.{hasR, hasW, deskOf, classOf, rightOf, accepted}
 use Rattle.rules.specs.Links.{hasProcess, serves, linked}
 use Rattle.rules.specs.declared.Setup.{Setup}
+use Rattle.rules.proofs.Setups.{accepted-sizes, deskOf-lt}
+use Rattle.rules.proofs.Links.{ProcessAt, linked-iff}
 use Rattle.chains.specs.Chains.{processAt, fileFor, deskAt, Fewest}
 use Rattle.chains.proofs.Lowest.{lowest-iff, lowest-holds, lowest-below}
-use Rattle.chains.proofs.Chains.{link-at, chain-each}
-use Rattle.chains.proofs.Shortest.{desks-apart, files-apart}
+use Rattle.chains.proofs.Chains.{AmongDesks, link-at}
+use Rattle.chains.proofs.Shortest.{links-apart}
+
+module _ (s : Setup) (e : accepted s ≡ true) where
+  -- a desk that has a process is one of the setup
+  seat-lt : {d : ℕ} → ProcessAt s d → d < s .desks
+  seat-lt p = rw (p .sits) at (deskOf-lt s e (p .process) (omega (arith, p .exists, accepted-sizes s e .of-processes .high)))
+
+  -- so a link runs between desks of the setup
+  pub linked-among : AmongDesks (s .desks) (linked s)
+  linked-among = record { ends = λ d u h. let k = linked-iff s d u .0 h in (seat-lt (k .from), seat-lt (k .to)) }
+
+  -- which are among the desks that any setup may have
+  pub linked-among-most : AmongDesks mostDesks (linked s)
+  linked-among-most =
+      let most = accepted-sizes s e .of-desks .high in
+      record { ends = λ d u h. let (k, l) = linked-among .ends d u h in (omega arith, omega arith) }
 
 -- "Each desk acts by its lowest process": one that exists and sits there, and none that sits there is lower
 pub record ActsBy (s : Setup) (d p : ℕ) : Type 0 where
@@ -50,37 +68,40 @@ pub record LinkActs (s : Setup) (d e : ℕ) : Type 0 where
   pub to : ActsBy s e (processAt s e)
   pub by : Uses s d e (fileFor s d e)
 
--- both desks of a link have a process
-linked-seats : (s : Setup) (d e : ℕ) → linked s d e ≡ true → (hasProcess s d ≡ true) × (hasProcess s e ≡ true)
-unfolding linked
-linked-seats s d e h =
-    and-eq-true-iff (hasProcess s d) (hasProcess s e) .0
-    (and-eq-true-iff (hasProcess s d && hasProcess s e) (someBelow (s .files) (serves s d e)) .0 h .0)
-
 pub link-acts : (s : Setup) (d e : ℕ) → linked s d e ≡ true → LinkActs s d e
 unfolding linked
 link-acts s d e h =
-    let (p, q) = linked-seats s d e h in
-    let f = and-eq-true-iff (hasProcess s d && hasProcess s e) (someBelow (s .files) (serves s d e)) .0 h .1 in
+    let (both, f) = and-eq-true-iff (hasProcess s d && hasProcess s e) (someBelow (s .files) (serves s d e)) .0 h in
+    let (p, q) = and-eq-true-iff (hasProcess s d) (hasProcess s e) .0 both in
     record { from = processAt-acts s d p; to = processAt-acts s e q; by = fileFor-used s d e f }
 
--- desks that act by one process are one desk
-pub process-tells : (s : Setup) (d e : ℕ) → hasProcess s d ≡ true → hasProcess s e ≡ true → processAt s d ≡ processAt s e → d ≡ e
-process-tells s d e h k q = sym (processAt-acts s d h .sits) ∙ ap (deskOf s) q ∙ processAt-acts s e k .sits
+-- a file by which d's link to e is served and u's to v serves a link from d to v too
+pub shared-file : (s : Setup) (d e u v f : ℕ) → linked s d e ≡ true → linked s u v ≡ true → f < s .files
+    → serves s d e f ≡ true → serves s u v f ≡ true → linked s d v ≡ true
+shared-file s d e u v f k l h x y =
+    linked-iff s d v .1
+    (record {
+      from = linked-iff s d e .0 k .from;
+      to = linked-iff s u v .0 l .to;
+      file = f;
+      exists = h;
+      writes = and-eq-true-iff (hasW (rightOf s d (classOf s f))) (hasR (rightOf s e (classOf s f))) .0 x .0;
+      reads = and-eq-true-iff (hasW (rightOf s u (classOf s f))) (hasR (rightOf s v (classOf s f))) .0 y .1;
+    })
 
-module _ (s : Setup) (a b : ℕ) (xs : List ℕ) (h : Fewest s a b xs) where
-  -- each desk of a chain with the fewest links acts by a process of its own
-  pub processes-apart : (i j : ℕ) → i < j → j ≤ length xs → processAt s (deskAt a xs i) ≡ processAt s (deskAt a xs j) → ⊥
-  processes-apart i j l m q =
-      desks-apart s a b xs h i j l m (process-tells s (deskAt a xs i) (deskAt a xs j) (seated i (omega arith)) (seated j m) q)
-    where
-      seated : (k : ℕ) → k ≤ length xs → hasProcess s (deskAt a xs k) ≡ true
-      seated = chain-each s (λ d. hasProcess s d ≡ true) (linked-seats s) a b xs (h .chain) (omega arith)
+module _ (s : Setup) {a b : ℕ} {xs : List ℕ} (h : Fewest (linked s) a b xs) where
+  -- no file serves two links of a chain with the fewest links
+  pub files-apart : (i j f : ℕ) → i < j → j < length xs → f < s .files
+      → serves s (deskAt a xs i) (deskAt a xs (suc i)) f ≡ true → serves s (deskAt a xs j) (deskAt a xs (suc j)) f ≡ true → ⊥
+  files-apart i j f l m k x y =
+      let link = link-at (linked s) a b xs (h .chain) in
+      links-apart h i (suc j) (omega arith) m (shared-file s _ _ _ _ f (link i (omega arith)) (link j m) k x y)
 
-  -- and each link uses a file of its own
+  -- so each link uses a file of its own
   pub files-used-apart : (i j : ℕ) → i < j → j < length xs
-      → fileFor s (deskAt a xs i) (deskAt a xs (suc i)) ≡ fileFor s (deskAt a xs j) (deskAt a xs (suc j)) → ⊥
+      → fileFor s (deskAt a xs i) (deskAt a xs (suc i)) ≢ fileFor s (deskAt a xs j) (deskAt a xs (suc j))
   files-used-apart i j l m q =
-      let x = link-acts s _ _ (link-at s a b xs (h .chain) i (omega arith)) .by in
-      let y = link-acts s _ _ (link-at s a b xs (h .chain) j m) .by in
-      files-apart s a b xs h i j _ l m (y .exists) (rw q at (x .served)) (y .served)
+      let link = link-at (linked s) a b xs (h .chain) in
+      let x = link-acts s _ _ (link i (omega arith)) .by in
+      let y = link-acts s _ _ (link j m) .by in
+      files-apart i j _ l m (y .exists) (rw q at (x .served)) (y .served)

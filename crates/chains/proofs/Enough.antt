@@ -10,58 +10,51 @@ use borrow.Author.Tests.{ltb-true, ltb-false}
 use lib.Dec.{ltb}
 use lib.ListN.{length}
 use Rattle.rules.specs.Sizes.{mostDesks}
-use Rattle.rules.specs.Setups.{accepted}
-use Rattle.rules.specs.declared.Setup.{Setup}
 use Rattle.rules.proofs.Lists.{by-test}
-use Rattle.rules.proofs.Setups.{accepted-sizes}
-use Rattle.chains.specs.Chains.{isChain, deskAt, HasRoute, ReachedIn, Fewest, Taken, mostLinks, far, linksTo, chainOf}
-use Rattle.chains.proofs.Chains.{chain-none, chain-lt, detour, detour-length, detour-chain}
+use Rattle.chains.specs.Chains.{Links, isChain, deskAt, HasRoute, ReachedIn, Fewest, Taken, mostLinks, far, fewestLinks, chainOf}
+use Rattle.chains.proofs.Chains.{AmongDesks, chain-none, chain-lt, detour, detour-length, detour-chain}
 use Rattle.chains.proofs.Pigeons.{pigeons}
 use Rattle.chains.proofs.Reach.{reach-iff, reach-else}
 use Rattle.chains.proofs.Walk.{chainOf-taken}
 
-module _ (s : Setup) (e : accepted s ≡ true) (a b : ℕ) where
+module _ {n : ℕ} {links : Links} (among : AmongDesks n links) {a b : ℕ} where
   -- a chain of as many links as there are desks, or more, visits a desk twice, so a shorter one leaves the round between out
-  cut-short : (n : ℕ) (xs : List ℕ) → length xs ≤ n → isChain s a b xs ≡ true → ReachedIn s a b (s .desks - 1)
+  cut-short : (m : ℕ) (xs : List ℕ) → length xs ≤ m → isChain links a b xs ≡ true → ReachedIn links a b (n - 1)
   cut-short zero xs h c = record { through = xs; chain = c; short = omega arith }
-  cut-short (suc n) xs h c =
-      by-test (ltb (length xs) (s .desks)) (λ t. record { through = xs; chain = c; short = omega (arith, ltb-true (length xs) (s .desks) t) })
+  cut-short (suc m) xs h c =
+      by-test (ltb (n - 1) (length xs))
       (λ t.
-      let long = ltb-false (length xs) (s .desks) t in
-      let some = accepted-sizes s e .of-desks .low in
-      let w = pigeons (s .desks) (suc (length xs)) (deskAt a xs) (λ i l. chain-lt s e a b xs c (omega arith) i (omega arith)) (omega arith) in
+      let long = ltb-true (n - 1) (length xs) t in
+      let w = pigeons n (suc (length xs)) (deskAt a xs) (λ i l. chain-lt among a b xs c (omega arith) i (omega arith)) (omega arith) in
       let i : w .one ≤ length xs = omega (arith, w .apart, w .inside) in
       let j : w .other ≤ length xs = omega (arith, w .inside) in
-      cut-short n (detour xs (w .one) (w .other) []) (omega (arith, detour-length xs (w .one) (w .other) [] i, w .apart))
-      (detour-chain s a b xs c (w .one) (w .other) i j [] (chain-none s _ _ .1 (w .same))))
+      cut-short m (detour xs (w .one) (w .other) []) (omega (arith, detour-length xs (w .one) (w .other) [] i, w .apart))
+      (detour-chain links a b xs c (w .one) (w .other) i j [] (chain-none links _ _ .1 (w .same))))
+      (λ t. record { through = xs; chain = c; short = ltb-false (n - 1) (length xs) t })
 
-  -- where there is a route, there is one of fewer links than the setup has desks
-  pub fewer-than-desks : HasRoute s a b → ReachedIn s a b (s .desks - 1)
-  fewer-than-desks r = cut-short (length (r .through)) (r .through) (omega arith) (r .chain)
+  -- where there is a route, there is one of fewer links than there are desks
+  pub enough-links : HasRoute links a b → ReachedIn links a b (n - 1)
+  enough-links r = cut-short (length (r .through)) (r .through) (omega arith) (r .chain)
 
-  -- so a chain with the fewest links has fewer
-  pub fewest-lt : (xs : List ℕ) → Fewest s a b xs → length xs < s .desks
-  fewest-lt xs f =
-      let r = fewer-than-desks (record { through = xs; chain = f .chain }) in
-      omega (arith, f .fewest (r .through) (r .chain), r .short, accepted-sizes s e .of-desks .low)
+  -- so a chain with the fewest links has no more
+  pub fewest-most : {xs : List ℕ} → Fewest links a b xs → length xs ≤ n - 1
+  fewest-most {xs} f =
+      let r = enough-links (record { through = xs; chain = f .chain }) in omega (arith, f .fewest (r .through) (r .chain), r .short)
 
-  -- so many links are enough for any setup
-  pub enough-links : HasRoute s a b → ReachedIn s a b mostLinks
-  enough-links r =
-      let q = fewer-than-desks r in
-      record { through = q .through; chain = q .chain; short = omega (arith, q .short, accepted-sizes s e .of-desks .high) }
-
+module _ {links : Links} (among : AmongDesks mostDesks links) (a b : ℕ) (l : a < mostDesks) where
   -- the number of links stands below `far` exactly where there is a route
-  pub linksTo-iff : a < mostDesks → (linksTo s b a < far) ↔ HasRoute s a b
-  linksTo-iff l =
-      let i = reach-iff s e b mostLinks (omega arith) a l in
-      (λ h. let r = i .0 (omega arith) in record { through = r .through; chain = r .chain }, λ r. omega (arith, i .1 (enough-links r)))
+  pub fewestLinks-iff : (fewestLinks links a b < far) ↔ HasRoute links a b
+  fewestLinks-iff =
+      let i = reach-iff among b mostLinks (omega arith) a l in
+      (λ h. let r = i .0 (omega arith) in record { through = r .through; chain = r .chain }, λ r. omega (arith, i .1 (enough-links among r)))
 
-  -- else it is `far`
-  pub linksTo-none : a < mostDesks → (linksTo s b a ≡ far) ↔ (HasRoute s a b → ⊥)
-  linksTo-none l =
-      (λ q r. omega (arith, linksTo-iff l .1 r), λ none. ⊎-elim (λ h. absurd (none (linksTo-iff l .0 (omega arith)))) (λ q. q) (reach-else s e b mostLinks (omega arith) a l))
+  -- and is `far` exactly where there is none
+  pub fewestLinks-none : (fewestLinks links a b ≡ far) ↔ (¬ HasRoute links a b)
+  fewestLinks-none = (
+    λ q r. omega (arith, fewestLinks-iff .1 r),
+    λ none. ⊎-elim (λ h. absurd (none (fewestLinks-iff .0 (omega arith)))) (λ q. q) (reach-else among b mostLinks (omega arith) a l),
+  )
 
   -- where there is a route, the report takes the chain that 01 says
-  pub report-takes : a < mostDesks → HasRoute s a b → Taken s a b (chainOf s a b)
-  report-takes l r = chainOf-taken s e a b l (linksTo-iff l .1 r)
+  pub report-takes : HasRoute links a b → Taken links a b (chainOf links a b)
+  report-takes r = chainOf-taken among a b l (fewestLinks-iff .1 r)

@@ -4,7 +4,6 @@ pub mod Before
 pub mod Chains
 pub mod Reach
 pub mod Walk
-pub mod Settled
 pub mod Shortest
 pub mod Pigeons
 pub mod Enough

@@ -1,7 +1,7 @@
 -- Laws of the lowest number of which a condition holds.
 -- Assumes nothing.
 use Prim.Native.Nat.{ℕ, zero, suc, _<_, _≤_}
-use mathlib.Core.Path.{_≡_, refl, sym, _∙_}
+use mathlib.Core.Path.{_≡_, sym, _∙_}
 use mathlib.Core.Bool.{Bool, true, false, true≢false}
 use mathlib.Core.Logic.{_↔_}
 use native.Mathlib.Nat.{not-suc-le-zero, le-of-suc-le-suc}
@@ -36,7 +36,8 @@ lowest-least (suc n) p (suc k) h =
 
 -- no number of which the condition holds is below it
 pub lowest-below : (n : ℕ) (p : ℕ → Bool) (k : ℕ) → p k ≡ true → lowest n p ≤ k
-lowest-below n p k e = by-test (ltb k (lowest n p)) (λ t. absurd (true≢false (sym e ∙ lowest-least n p k (ltb-true k (lowest n p) t)))) (ltb-false k (lowest n p))
+lowest-below n p k e =
+    by-test (ltb k (lowest n p)) (λ t. absurd (true≢false (sym e ∙ lowest-least n p k (ltb-true k (lowest n p) t)))) (ltb-false k (lowest n p))
 
 -- it is below n exactly where the condition holds of some number below n
 pub lowest-iff : (n : ℕ) (p : ℕ → Bool) → (lowest n p < n) ↔ (someBelow n p ≡ true)
@@ -45,21 +46,9 @@ lowest-iff n p = (
   λ e. let (k, l, q) = someBelow-iff n p .0 e in omega (arith, lowest-below n p k q),
 )
 
--- where it holds of none, it is n
-pub lowest-none : (n : ℕ) (p : ℕ → Bool) → someBelow n p ≡ false → lowest n p ≡ n
-lowest-none n p e =
-    by-test (ltb (lowest n p) n) (λ t. absurd (true≢false (sym (lowest-iff n p .0 (ltb-true (lowest n p) n t)) ∙ e)))
-    (λ t. omega (arith, lowest-le n p, ltb-false (lowest n p) n t))
-
 -- a number of which the condition holds, and of none below it, is the lowest
 pub lowest-is : (n : ℕ) (p : ℕ → Bool) (k : ℕ) → k < n → p k ≡ true → ((j : ℕ) → j < k → p j ≡ false) → lowest n p ≡ k
 lowest-is n p k h e least =
     let low = lowest-below n p k e in
     by-test (ltb (lowest n p) k) (λ t. let l = ltb-true (lowest n p) k t in absurd (true≢false (sym (lowest-holds n p (omega arith)) ∙ least (lowest n p) l)))
     (λ t. omega (arith, ltb-false (lowest n p) k t))
-
--- conditions that agree below n have the same lowest
-pub lowest-cong : (n : ℕ) (p q : ℕ → Bool) → ((k : ℕ) → k < n → p k ≡ q k) → lowest n p ≡ lowest n q
-unfolding lowest
-lowest-cong zero p q h = refl
-lowest-cong (suc n) p q h = rw (h zero (omega arith), lowest-cong n (λ k. p (suc k)) (λ k. q (suc k)) (λ k l. h (suc k) (omega arith)))

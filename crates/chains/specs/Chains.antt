@@ -1,4 +1,4 @@
--- 01, "The route report": the chains of links from desk to desk, how few links reach a desk, and the chain that the report takes.
+-- 01, "The route report": chains over any links from desk to desk, how few links reach a desk, and the chain that the report takes.
 use Prim.Native.Nat.{ℕ, zero, suc, _-_, _≤_}
 use mathlib.Core.Path.{_≡_}
 use mathlib.Core.Bool.{Bool, true, false, _&&_, cond}
@@ -7,7 +7,7 @@ use lib.Dec.{ltb, eqb}
 use lib.ListN.{getD, length}
 use Rattle.rules.specs.Sizes.{mostDesks, someBelow, table}
 use Rattle.rules.specs.Setups.{deskOf}
-use Rattle.rules.specs.Links.{serves, linked}
+use Rattle.rules.specs.Links.{serves}
 use Rattle.rules.specs.declared.Setup.{Setup}
 
 -- the lowest number below n of which the condition holds, and n where there is none
@@ -23,30 +23,34 @@ processAt s d = lowest (s .processes) (λ p. eqb (deskOf s p) d)
 abbrev pub fileFor : Setup → ℕ → ℕ → ℕ
 fileFor s d e = lowest (s .files) (serves s d e)
 
+-- links between desks: whether one runs from the first to the second; 01's links of a setup are `linked` of it
+abbrev pub Links : Type 0
+Links = ℕ → ℕ → Bool
+
 -- "a chain of links from A to B", as the desks after A: it has as many links as it has desks
-unfoldable pub isChain : Setup → ℕ → ℕ → List ℕ → Bool
-isChain s a b [] = eqb a b
-isChain s a b (d ∷ rest) = linked s a d && isChain s d b rest
+unfoldable pub isChain : Links → ℕ → ℕ → List ℕ → Bool
+isChain links a b [] = eqb a b
+isChain links a b (d ∷ rest) = links a d && isChain links d b rest
 
 -- the desk at place i of a chain from a, which stands at place 0
 abbrev pub deskAt : ℕ → List ℕ → ℕ → ℕ
 deskAt a xs i = getD (a ∷ xs) i 0
 
 -- "A route is a chain of links from A to B"; the chain with no link leads from a desk to itself, a pair that refusal 13 rules out
-pub record HasRoute (s : Setup) (a b : ℕ) : Type 0 where
+pub record HasRoute (links : Links) (a b : ℕ) : Type 0 where
   pub through : List ℕ
-  pub chain : isChain s a b through ≡ true
+  pub chain : isChain links a b through ≡ true
 
 -- "reached in at most n links when a chain that short exists"
-pub record ReachedIn (s : Setup) (a b n : ℕ) : Type 0 where
+pub record ReachedIn (links : Links) (a b n : ℕ) : Type 0 where
   pub through : List ℕ
-  pub chain : isChain s a b through ≡ true
+  pub chain : isChain links a b through ≡ true
   pub short : length through ≤ n
 
 -- a chain from a to b, and none has fewer links
-pub record Fewest (s : Setup) (a b : ℕ) (xs : List ℕ) : Type 0 where
-  pub chain : isChain s a b xs ≡ true
-  pub fewest : (ys : List ℕ) → isChain s a b ys ≡ true → length xs ≤ length ys
+pub record Fewest (links : Links) (a b : ℕ) (xs : List ℕ) : Type 0 where
+  pub chain : isChain links a b xs ≡ true
+  pub fewest : (ys : List ℕ) → isChain links a b ys ≡ true → length xs ≤ length ys
 
 -- the first list has "the smallest desk number at the first difference"
 unfoldable pub isBefore : List ℕ → List ℕ → Bool
@@ -55,9 +59,9 @@ isBefore (x ∷ xs) [] = false
 isBefore (x ∷ xs) (y ∷ ys) = cond (eqb x y) (isBefore xs ys) (ltb x y)
 
 -- "The report takes the fewest links k; among those, the chain with the smallest desk number at the first difference"
-pub record Taken (s : Setup) (a b : ℕ) (xs : List ℕ) : Type 0 where
-  pub of-fewest : Fewest s a b xs
-  pub first : (ys : List ℕ) → isChain s a b ys ≡ true → length ys ≡ length xs → isBefore ys xs ≡ false
+pub record Taken (links : Links) (a b : ℕ) (xs : List ℕ) : Type 0 where
+  pub of-fewest : Fewest links a b xs
+  pub first : (ys : List ℕ) → isChain links a b ys ≡ true → length ys ≡ length xs → isBefore ys xs ≡ false
 
 -- the most links that a chain needs
 abbrev pub mostLinks : ℕ
@@ -68,31 +72,31 @@ abbrev pub far : ℕ
 far = mostDesks
 
 -- a link runs from d to e, and e stands k links from the end
-abbrev pub leads : Setup → List ℕ → ℕ → ℕ → ℕ → Bool
-leads s to d k e = linked s d e && eqb (getD to e far) k
+abbrev pub leads : Links → List ℕ → ℕ → ℕ → ℕ → Bool
+leads links to d k e = links d e && eqb (getD to e far) k
 
 -- the number that stood at d, and where none did one more than n if d has a link to a desk that stands n links from the end
-unfoldable pub nearer : Setup → List ℕ → ℕ → ℕ → ℕ
-nearer s before n d = cond (ltb (getD before d far) far) (getD before d far) (cond (someBelow mostDesks (leads s before d n)) (suc n) far)
+unfoldable pub nearer : Links → List ℕ → ℕ → ℕ → ℕ
+nearer links before n d = cond (ltb (getD before d far) far) (getD before d far) (cond (someBelow mostDesks (leads links before d n)) (suc n) far)
 
 -- for each desk the fewest links in which it reaches b, as far as n, else a number past them
-unfoldable pub reach : Setup → ℕ → ℕ → List ℕ
-reach s b zero = table mostDesks (λ d. cond (eqb d b) 0 far)
-reach s b (suc n) = table mostDesks (nearer s (reach s b n) n)
+unfoldable pub reach : Links → ℕ → ℕ → List ℕ
+reach links b zero = table mostDesks (λ d. cond (eqb d b) 0 far)
+reach links b (suc n) = table mostDesks (nearer links (reach links b n) n)
 
--- "the fewest links" from desk d to desk b, or `far` where there is no chain
-abbrev pub linksTo : Setup → ℕ → ℕ → ℕ
-linksTo s b d = getD (reach s b mostLinks) d far
+-- "the fewest links" from desk a to desk b, or `far` where there is no chain
+abbrev pub fewestLinks : Links → ℕ → ℕ → ℕ
+fewestLinks links a b = getD (reach links b mostLinks) a far
 
 -- the lowest desk that has a link from d and stands k links from the end
-unfoldable pub nextDesk : Setup → List ℕ → ℕ → ℕ → ℕ
-nextDesk s to d k = lowest mostDesks (leads s to d k)
+unfoldable pub nextDesk : Links → List ℕ → ℕ → ℕ → ℕ
+nextDesk links to d k = lowest mostDesks (leads links to d k)
 
 -- the k desks after d, each one link nearer to the end
-unfoldable pub walk : Setup → List ℕ → ℕ → ℕ → List ℕ
-walk s to d zero = []
-walk s to d (suc k) = nextDesk s to d k ∷ walk s to (nextDesk s to d k) k
+unfoldable pub walk : Links → List ℕ → ℕ → ℕ → List ℕ
+walk links to d zero = []
+walk links to d (suc k) = nextDesk links to d k ∷ walk links to (nextDesk links to d k) k
 
 -- the chain that the report takes, where there is one
-unfoldable pub chainOf : Setup → ℕ → ℕ → List ℕ
-chainOf s a b = walk s (reach s b mostLinks) a (linksTo s b a)
+unfoldable pub chainOf : Links → ℕ → ℕ → List ℕ
+chainOf links a b = walk links (reach links b mostLinks) a (fewestLinks links a b)

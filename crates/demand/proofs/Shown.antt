@@ -13,14 +13,14 @@ use Rattle.secrecy.specs.Strike.{strike}
 use Rattle.rules.specs.Setups.{accepted}
 use Rattle.rules.specs.Stores.{contentOf, freshStore}
 use Rattle.rules.specs.Calls.{numbers, readOf, writtenTo}
-use Rattle.rules.specs.Links.{deskOfCall}
+use Rattle.rules.specs.Links.{deskOfCall, linked}
 use Rattle.rules.specs.declared.Setup.{Setup}
 use Rattle.rules.specs.declared.Store.{Store}
 use Rattle.rules.specs.declared.Answer.the-variants.{Nothing}
 use Rattle.views.specs.Machine.{machine}
 use Rattle.chains.specs.Chains.{processAt, fileFor, isChain, deskAt, Fewest}
 use Rattle.chains.proofs.Chains.{chain-none, chain-first}
-use Rattle.chains.proofs.Shortest.{desks-apart}
+use Rattle.chains.proofs.Shortest.{fewest-rest, fewest-apart, desks-apart}
 use Rattle.chains.proofs.Acts.{ActsBy, link-acts, files-used-apart}
 use Rattle.demand.specs.Routes.{onward, routeCalls}
 use Rattle.demand.specs.Heard.{without, Shows}
@@ -37,71 +37,62 @@ module _ (s : Setup) where
   unfolding deskOfCall
   others-call d {u} {p} at h code f x = rw (lt-ltb p (s .processes) (at .exists), at .sits) (ne-eqb d u h)
 
-  -- the rest of a chain with the fewest links has the fewest links
-  fewest-rest : (c d b : ℕ) (rest : List ℕ) → Fewest s c b (d ∷ rest) → Fewest s d b rest
-  fewest-rest c d b rest h =
-      let (l, r) = chain-first s c b d rest .0 (h .chain) in
-      record { chain = r; fewest = λ ys k. omega (arith, h .fewest (d ∷ ys) (chain-first s c b d ys .1 (l, k))) }
-
-  -- so the desk from which it runs is not the one to which it runs
-  fewest-apart : (d u b : ℕ) (rest : List ℕ) → Fewest s d b (u ∷ rest) → d ≢ b
-  fewest-apart d u b rest h q = omega (arith, h .fewest [] (chain-none s d b .1 q))
-
 module _ (s : Setup) (e : accepted s ≡ true) (b : ℕ) where
   -- from a stage on, the desk at the end hears the figure of the file that the stage's link made
-  onward-heard : (rest : List ℕ) (c d : ℕ) {m : Store} → Fewest s c b (d ∷ rest) → Stage m
+  onward-heard : (rest : List ℕ) (c d : ℕ) {m : Store} → Fewest (linked s) c b (d ∷ rest) → Stage m
       → answersTo (machine s) b m (onward s d (fileFor s c d) rest) ≡ Nothing ∷ readOf (contentOf m (fileFor s c d)) ∷ []
   unfolding onward answersWhere
   onward-heard [] c d {m} h at =
-      let (l, r) = chain-first s c b d [] .0 (h .chain) in
+      let (l, r) = chain-first (linked s) c b d [] .0 (h .chain) in
       let k = link-acts s c d l in
       simp (
-        own-call s d (k .to) (chain-none s d b .0 r),
+        own-call s d (k .to) (chain-none (linked s) d b .0 r),
         open-answers s m (processAt s d) (fileFor s c d) (k .to .exists) (k .by .exists),
         read-out s e at c d k,
       )
   onward-heard (u ∷ rest) c d {m} h at =
-      let onto = fewest-rest s c d b (u ∷ rest) h in
-      let j = link-acts s c d (chain-first s c b d (u ∷ rest) .0 (h .chain) .0) in
-      let k = link-acts s d u (chain-first s d b u rest .0 (onto .chain) .0) in
+      let onto = fewest-rest h in
+      let j = link-acts s c d (chain-first (linked s) c b d (u ∷ rest) .0 (h .chain) .0) in
+      let k = link-acts s d u (chain-first (linked s) d b u rest .0 (onto .chain) .0) in
       let f = fileFor s c d in
       let g = fileFor s d u in
       simp (
-        others-call s d (k .from) (fewest-apart s d u b rest onto),
-        handed s e at c d u j k (λ q. files-used-apart s c b (d ∷ u ∷ rest) h 0 1 (omega arith) (omega arith) (sym q)),
+        others-call s d (k .from) (fewest-apart onto),
+        handed s e at c d u j k (λ q. files-used-apart s h 0 1 (omega arith) (omega arith) (sym q)),
         onward-heard rest d u onto (content-stage (open-stage at f (processAt s d)) g (contentOf m f)),
         put-content s e at g (contentOf m f) (k .by .exists),
       )
 
--- from a desk on that desk a does not come after, no call is struck out
-onward-kept : (s : Setup) (a b : ℕ) (rest : List ℕ) (d f : ℕ) → isChain s d b rest ≡ true → ActsBy s d (processAt s d) → ((i : ℕ) → i ≤ length rest → deskAt d rest i ≢ a)
-    → without s a (onward s d f rest) ≡ onward s d f rest
-unfolding onward strike
-onward-kept s a b [] d f h own away = simp (others-call s d own (away 0 (omega arith)))
-onward-kept s a b (u ∷ rest) d f h own away =
-    let (l, r) = chain-first s d b u rest .0 h in
-    simp (
-      others-call s d own (away 0 (omega arith)),
-      onward-kept s a b rest u (fileFor s d u) r (link-acts s d u l .to) (λ i k. away (suc i) (omega arith)),
-    )
+module _ (s : Setup) (a b : ℕ) where
+  -- from a desk on that desk a does not come after, no call is struck out
+  onward-kept : (rest : List ℕ) (d f : ℕ) → isChain (linked s) d b rest ≡ true → ActsBy s d (processAt s d)
+      → ((i : ℕ) → i ≤ length rest → deskAt d rest i ≢ a) → without s a (onward s d f rest) ≡ onward s d f rest
+  unfolding onward strike
+  onward-kept [] d f h own away = simp (others-call s d own (away 0 (omega arith)))
+  onward-kept (u ∷ rest) d f h own away =
+      let (l, r) = chain-first (linked s) d b u rest .0 h in
+      simp (
+        others-call s d own (away 0 (omega arith)),
+        onward-kept rest u (fileFor s d u) r (link-acts s d u l .to) (λ i k. away (suc i) (omega arith)),
+      )
 
--- without desk a's calls the first three are gone, and no other: a chain with the fewest links does not come back to a
-route-without : (s : Setup) (a b d : ℕ) (rest : List ℕ) → Fewest s a b (d ∷ rest) → without s a (routeCalls s a (d ∷ rest)) ≡ onward s d (fileFor s a d) rest
-unfolding routeCalls strike
-route-without s a b d rest h =
-    let (l, r) = chain-first s a b d rest .0 (h .chain) in
-    let k = link-acts s a d l in
-    simp (
-      own-call s a (k .from) refl,
-      onward-kept s a b rest d (fileFor s a d) r (k .to) (λ i n q. desks-apart s a b (d ∷ rest) h 0 (suc i) (omega arith) (omega arith) (sym q)),
-    )
+  -- without desk a's calls the first three are gone, and no other: a chain with the fewest links does not come back to a
+  route-without : (d : ℕ) (rest : List ℕ) → Fewest (linked s) a b (d ∷ rest) → without s a (routeCalls s a (d ∷ rest)) ≡ onward s d (fileFor s a d) rest
+  unfolding routeCalls strike
+  route-without d rest h =
+      let (l, r) = chain-first (linked s) a b d rest .0 (h .chain) in
+      let k = link-acts s a d l in
+      simp (
+        own-call s a (k .from) refl,
+        onward-kept rest d (fileFor s a d) r (k .to) (λ i n q. desks-apart h 0 (suc i) (omega arith) (omega arith) (sym q)),
+      )
 
 -- the list along a chain with the fewest links shows the route
-pub route-shows : (s : Setup) → accepted s ≡ true → (a b : ℕ) (xs : List ℕ) → a ≢ b → Fewest s a b xs → Shows s a b (routeCalls s a xs)
+pub route-shows : (s : Setup) → accepted s ≡ true → {a b : ℕ} {xs : List ℕ} → a ≢ b → Fewest (linked s) a b xs → Shows s a b (routeCalls s a xs)
 unfolding routeCalls answersWhere
-route-shows s e a b [] other h = absurd (other (chain-none s a b .0 (h .chain)))
-route-shows s e a b (d ∷ rest) other h =
-    let k = link-acts s a d (chain-first s a b d rest .0 (h .chain) .0) in
+route-shows s e {a} {b} {xs = []} other h = absurd (other (chain-none (linked s) a b .0 (h .chain)))
+route-shows s e {a} {b} {xs = d ∷ rest} other h =
+    let k = link-acts s a d (chain-first (linked s) a b d rest .0 (h .chain) .0) in
     let f = fileFor s a d in
     let one = writtenTo (contentOf freshStore f) 1 in
     record {

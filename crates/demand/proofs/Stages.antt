@@ -102,7 +102,8 @@ module _ (s : Setup) (e : accepted s ≡ true) {m : Store} (at : Stage m) where
   -- a middle desk's OPEN, LOCK, COPY and UNLOCK leave the content of the file before it in the next
   pub handed : (c d u : ℕ) → LinkActs s c d → LinkActs s d u → fileFor s d u ≢ fileFor s c d
       → let p = processAt s d in let f = fileFor s c d in let g = fileFor s d u in
-      ran s (ran s (ran s (ran s m (openCall p f) .store) (lockCall p g) .store) (copyCall p f g) .store) (unlockCall p g) .store ≡ putContent (putOpen m f p) g (contentOf m f)
+      ran s (ran s (ran s (ran s m (openCall p f) .store) (lockCall p g) .store) (copyCall p f g) .store) (unlockCall p g) .store
+      ≡ putContent (putOpen m f p) g (contentOf m f)
   handed c d u j k apart =
       let p = processAt s d in
       let f = fileFor s c d in

@@ -14,23 +14,24 @@ use Rattle.rules.specs.Sizes.{mostDesks}
 use Rattle.rules.specs.Setups.{accepted}
 use Rattle.rules.specs.Stores.{freshStore}
 use Rattle.rules.specs.Calls.{Numbers}
-use Rattle.rules.specs.Links.{deskOfCall}
+use Rattle.rules.specs.Links.{deskOfCall, linked}
 use Rattle.rules.specs.declared.Setup.{Setup}
 use Rattle.rules.proofs.Lists.{by-test}
 use Rattle.views.specs.Machine.{machine, linkedTo}
 use Rattle.views.proofs.Unwinding.{unwound}
-use Rattle.chains.specs.Chains.{HasRoute, far, linksTo}
-use Rattle.chains.proofs.Chains.{chain-none, chain-first, chain-joined}
-use Rattle.chains.proofs.Enough.{linksTo-iff}
+use Rattle.chains.specs.Chains.{HasRoute, far, fewestLinks}
+use Rattle.chains.proofs.Chains.{chain-none, chain-link, chain-joined}
+use Rattle.chains.proofs.Acts.{linked-among-most}
+use Rattle.chains.proofs.Enough.{fewestLinks-iff}
 use Rattle.demand.specs.Heard.{heard, without}
 
 module _ (s : Setup) (a : ℕ) where
   -- the desks that desk a reaches, itself among them, and those that it does not
   abbrev Reached : Desks
-  Reached d = HasRoute s a d
+  Reached d = HasRoute (linked s) a d
 
   abbrev Unreached : Desks
-  Unreached d = ¬ HasRoute s a d
+  Unreached d = ¬ HasRoute (linked s) a d
 
   -- a link from a desk that is reached reaches
   closed : Closed (linkedTo s) Reached Unreached
@@ -39,8 +40,8 @@ module _ (s : Setup) (a : ℕ) where
         apart = λ d h k. k h;
         no-link =
             λ d u h k link.
-            let one = chain-first s d u u [] .1 (link, chain-none s u u .1 refl) in
-            k (record { through = h .through ++ (u ∷ []); chain = chain-joined s a d u (h .through) (u ∷ []) (h .chain) one });
+            let on = chain-joined (linked s) a d u (h .through) (u ∷ []) (h .chain) (chain-link (linked s) d u link) in
+            k (record { through = h .through ++ (u ∷ []); chain = on });
       }
 
   -- a call's desk is reached or it is not, as the number of links tells
@@ -50,12 +51,14 @@ module _ (s : Setup) (a : ℕ) where
       go : (o : Option ℕ) → deskOfCall s n ≡ o → OfEither (machine s) Reached Unreached n
       go none q = of-nobody q
       go (some d) q =
-          let i = linksTo-iff s e a d l in
-          by-test (ltb (linksTo s d a) far) (λ t. of-H (record { who = d; belongs = q; inside = i .0 (ltb-true (linksTo s d a) far t) }))
-          (λ t. of-L (record { who = d; belongs = q; inside = λ r. omega (arith, i .1 r, ltb-false (linksTo s d a) far t) }))
+          let k = fewestLinks (linked s) a d in
+          let i = fewestLinks-iff (linked-among-most s e) a d l in
+          by-test (ltb k far) (λ t. of-H (record { who = d; belongs = q; inside = i .0 (ltb-true k far t) }))
+          (λ t. of-L (record { who = d; belongs = q; inside = λ r. omega (arith, i .1 r, ltb-false k far t) }))
 
 -- so no list of calls, whatever its numbers are, lets a desk that is not reached hear desk a
-pub no-route-unheard : (s : Setup) → accepted s ≡ true → (a b : ℕ) → a < mostDesks → ¬ HasRoute s a b → (acts : List Numbers) → heard s b acts ≡ heard s b (without s a acts)
+pub no-route-unheard : (s : Setup) → accepted s ≡ true → (a b : ℕ) → a < mostDesks → ¬ HasRoute (linked s) a b
+    → (acts : List Numbers) → heard s b acts ≡ heard s b (without s a acts)
 no-route-unheard s e a b l unreached acts =
-    let itself : HasRoute s a a = record { through = []; chain = chain-none s a a .1 refl } in
+    let itself : HasRoute (linked s) a a = record { through = []; chain = chain-none (linked s) a a .1 refl } in
     desk-unheard (unwound s e) (closed s a) a itself acts (λ n i. sides s a e l n) b unreached freshStore

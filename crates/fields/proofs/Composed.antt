@@ -42,12 +42,6 @@ abbrev pub followed : Part → Found ℕ → (ℕ → Found (List ℕ)) → Foun
 followed part none after = none
 followed part (some (next, n)) after = with-part part n (after next)
 
--- the parts of a shape read one after the other from a cursor on
-unfoldable pub shapeFrom : Shape → List ℕ → ℕ → Found (List ℕ)
-shapeFrom [] text at = none
-shapeFrom (part ∷ []) text at = ended part (partAt part lineFeed text at)
-shapeFrom (part ∷ (next ∷ parts)) text at = followed part (partAt part tab text at) (shapeFrom (next ∷ parts) text)
-
 word-joining : (w : List ℕ) (rest : Option (List ℕ)) → rest ≡ joining (theWord w) (some 0) rest
 word-joining w none = refl
 word-joining w (some ns) = refl
@@ -155,18 +149,6 @@ more-cut part next parts text at (cut-feed field more e w v f a) =
 pub line-more : (part next : Part) (parts : Shape) (text : List ℕ) (at : ℕ)
     → lineAt (readAs (part ∷ next ∷ parts)) text at ≡ followed part (partAt part tab text at) (lineAt (readAs (next ∷ parts)) text)
 line-more part next parts text at = more-cut part next parts text at (cut (drop at text))
-
-followed-same : (part : Part) (first : Found ℕ) (f g : ℕ → Found (List ℕ)) → ((next : ℕ) → f next ≡ g next) → followed part first f ≡ followed part first g
-followed-same part none f g h = refl
-followed-same part (some (next, n)) f g h = ap (with-part part n) (h next)
-
--- a line read by its shape is the parts of the shape read one after the other
-pub shape-line : (part : Part) (parts : Shape) (text : List ℕ) (at : ℕ) → lineAt (readAs (part ∷ parts)) text at ≡ shapeFrom (part ∷ parts) text at
-unfolding shapeFrom
-shape-line part [] text at = line-last part text at
-shape-line part (next ∷ parts) text at =
-    line-more part next parts text at
-    ∙ followed-same part (partAt part tab text at) (lineAt (readAs (next ∷ parts)) text) (shapeFrom (next ∷ parts) text) (shape-line next parts text)
 
 -- what code tells of the last part of a line it tells of the line
 pub line-ends : (part : Part) (text : List ℕ) (at r n : ℕ) → told r n ≡ partAt part lineFeed text at

@@ -15,9 +15,9 @@ use lib.ListN.{length, drop, length-append, length-drop}
 use lib.Seq.{drop-drop, drop-append-add}
 use Rattle.rules.proofs.Lists.{by-test, neither}
 use Rattle.lines.specs.Bytes.{lineFeed, tab}
-use Rattle.lines.specs.Lines.{pieces, fieldsOf}
+use Rattle.lines.specs.Lines.{fieldsOf}
 use Rattle.lines.specs.Shapes.{Part}
-use Rattle.lines.proofs.Lines.{without, pieces-last}
+use Rattle.lines.proofs.Lines.{without}
 use Rattle.lines.proofs.Shapes.{none-some}
 use Rattle.fields.specs.Cursor.{foundAt, told, isMark, firstField, afterField, startsWith, partOf, partAt, firstLine, isWhole, lineAt}
 
@@ -93,9 +93,6 @@ unwhole-without [] h = refl
 unwhole-without (b ∷ rest) h =
     let (f, g) = neither (eqb b lineFeed) (isWhole rest) .0 h in
     rw (f, unwhole-without rest g)
-
-pub unwhole-piece : (rest : List ℕ) → isWhole rest ≡ false → pieces lineFeed rest ≡ rest ∷ []
-unwhole-piece rest h = pieces-last lineFeed rest (unwhole-without rest h)
 
 -- whole bytes are their first line, its LF, and what follows that
 pub whole-line : (rest : List ℕ) → isWhole rest ≡ true → rest ≡ firstLine rest ++ (lineFeed ∷ drop (length (firstLine rest) + 1) rest)
@@ -182,11 +179,7 @@ line-within read text at {next} {x} e =
     let p = found .past in
     (omega arith, omega arith)
 
--- the same of what code tells of a field and of a line
+-- the same of what code tells of a field
 pub part-told : (part : Part) (mark : ℕ) (text : List ℕ) (at r n : ℕ) → told r n ≡ partAt part mark text at → (r ≡ 0 → ⊥)
     → (at < r) × (r ≤ length text)
 part-told part mark text at r n e h = part-within part mark text at (sym e ∙ told-some r n h)
-
-pub line-told {ℓ} : {A : Type ℓ} (read : List (List ℕ) → Option A) (text : List ℕ) (at r : ℕ) (x : A) → told r x ≡ lineAt read text at → (r ≡ 0 → ⊥)
-    → (at < r) × (r ≤ length text)
-line-told read text at r x e h = line-within read text at (sym e ∙ told-some r x h)

@@ -2,4 +2,5 @@
 pub mod Searched
 pub mod Seated
 pub mod Linked
+pub mod Marked
 pub mod Nearer

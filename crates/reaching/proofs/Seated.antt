@@ -1,8 +1,8 @@
 -- What the loop over the processes that notes the first of each desk keeps, and what it has noted at its end.
 -- Assumes nothing.
 use Prim.Native.Nat.{ℕ, _+_, _<_, _≤_}
-use mathlib.Core.Path.{_≡_, refl, sym, _∙_}
-use mathlib.Core.Bool.{Bool, true, false}
+use mathlib.Core.Path.{_≡_, refl, ap, sym, _∙_}
+use mathlib.Core.Bool.{Bool, true, false, not}
 use mathlib.Core.List.{List}
 use native.Mathlib.Omega.{arith}
 use borrow.Author.Count.{below-none, below-more}
@@ -42,7 +42,7 @@ module _ {n : ℕ} {p : ℕ → Bool} {i v : ℕ} where
 
   -- once all are passed, that is the lowest
   noted-all : Noted n p i v → i ≤ n → n ≤ i → v ≡ lowest n p
-  noted-all (none-yet e h) k l = e ∙ searched-all n p i (record { before = k; none = h }) l
+  noted-all (none-yet e h) k l = e ∙ searched-all n p i (record { before = k; each = λ j b. ap not (h j b) }) l
   noted-all (noted k e h) m l = sym (lowest-is n p v (omega arith) e h)
 
 -- the first process of each desk among those before p is noted in a list by desk, and the number of processes where there is none

@@ -1,2 +1,2 @@
 -- What the contracts of functions that are no entries cite.
-pub mod Filed
+pub mod Tables

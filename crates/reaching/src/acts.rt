@@ -1,4 +1,4 @@
-// The lowest process of each desk, and the lowest file that serves a link.
+// The lowest process of a desk, and the lowest file that serves a link.
 use judging::rights::entry_at;
 use judging::rights::has_r;
 use judging::rights::has_w;
@@ -6,17 +6,15 @@ use rules::CLASSES;
 use rules::DESKS;
 use rules::Setup;
 ghost use mathlib.Core.Path.{_≡_};
-ghost use mathlib.Core.Bool.{true};
-ghost use Prim.Native.Nat.{_<_};
-ghost use Rattle.rules.specs.Sizes.{mostDesks, table};
-ghost use Rattle.rules.specs.Setups.{accepted};
-ghost use Rattle.rules.specs.Links.{serves};
+ghost use mathlib.Core.Bool.{true, _&&_};
+ghost use Prim.Native.Nat.{_+_, _*_, _<_};
+ghost use lib.ListN.{getD};
+ghost use Rattle.rules.specs.Sizes.{mostDesks, mostClasses, table};
+ghost use Rattle.rules.specs.Setups.{hasR, hasW, accepted};
 ghost use Rattle.chains.specs.Chains.{processAt, fileFor};
-ghost use lib.ListN.{length};
-ghost use Rattle.reaching.specs.Filed.{filed, ForFirsts};
 
 // The first process of each desk, by desk, and the number of processes where a desk has none.
-pub fn firsts(setup: Setup) -> [u8; DESKS]
+fn firsts(setup: Setup) -> [u8; DESKS]
     requires { ⌜ accepted setup ≡ true ⌝ }
     ensures { λ r. ⌜ r ≡ table mostDesks (processAt setup) ⌝ }
 {
@@ -34,18 +32,19 @@ pub fn firsts(setup: Setup) -> [u8; DESKS]
     firsts
 }
 
-// The finder of a desk's lowest process: the table of firsts is filled once, and looked into.
-pub fn lowest_process(firsts: &[u8], d: usize) -> usize
-    requires { ⌜ (length (now firsts) ≡ mostDesks) × (d < mostDesks) ⌝ }
-    ensures { λ r. ⌜ ForFirsts (now (firsts .entry)) (λ s. r ≡ processAt s d) ⌝ }
+// The finder of a desk's lowest process: it fills a table of firsts, and looks into it.
+pub fn lowest_process(setup: Setup, d: usize) -> usize
+    requires { ⌜ (accepted setup ≡ true) × (d < mostDesks) ⌝ }
+    ensures { λ r. ⌜ r ≡ processAt setup d ⌝ }
 {
+    let firsts = firsts(setup);
     firsts[d] as usize
 }
 
 // Desk d writes and desk e reads the class of file f. The two tables are lent, so that none is copied for a look.
 fn serves<'a>(rights: &'a [u8], class: &'a [u8], d: usize, e: usize, f: usize) -> bool
     requires { ⌜ (d < mostDesks) × (e < mostDesks) ⌝ }
-    ensures { λ r. ⌜ r ≡ serves (filed 0 (now (rights .entry)) (now (class .entry))) d e f ⌝ }
+    ensures { λ r. ⌜ r ≡ (hasW (getD (now (rights .entry)) (d * mostClasses + getD (now (class .entry)) f 0) 0) && hasR (getD (now (rights .entry)) (e * mostClasses + getD (now (class .entry)) f 0) 0)) ⌝ }
 {
     let t = entry_at(class, f) as usize;
     if !has_w(entry_at(rights, d * CLASSES + t)) {
@@ -55,25 +54,19 @@ fn serves<'a>(rights: &'a [u8], class: &'a [u8], d: usize, e: usize, f: usize) -
 }
 
 // The lowest file that serves, below the number of files, and that number where none does.
-pub fn file_for<'a>(files: usize, rights: &'a [u8], class: &'a [u8], d: usize, e: usize) -> usize
+pub fn file_for(setup: Setup, d: usize, e: usize) -> usize
     requires { ⌜ (d < mostDesks) × (e < mostDesks) ⌝ }
-    ensures { λ r. ⌜ r ≡ fileFor (filed files (now (rights .entry)) (now (class .entry))) d e ⌝ }
+    ensures { λ r. ⌜ r ≡ fileFor setup d e ⌝ }
 {
+    let files = setup.files as usize;
     let mut f = 0;
     loop {
         if files <= f {
             break files;
         }
-        if serves(rights, class, d, e, f) {
+        if serves(&setup.rights, &setup.class, d, e, f) {
             break f;
         }
         f += 1;
     }
-}
-
-pub fn serving_file(setup: Setup, d: usize, e: usize) -> usize
-    requires { ⌜ (d < mostDesks) × (e < mostDesks) ⌝ }
-    ensures { λ r. ⌜ r ≡ fileFor setup d e ⌝ }
-{
-    file_for(setup.files as usize, &setup.rights, &setup.class, d, e)
 }

@@ -10,11 +10,12 @@ use borrow.Author.Tests.{ltb-false, leb-false, eqb-false, not-false, lt-ltb, le-
 use lib.ListN.{length, drop}
 use Rattle.rules.specs.Setups.{accepted}
 use Rattle.rules.specs.Calls.{callWidth, inQuads}
+use Rattle.rules.specs.Links.{linked}
 use Rattle.rules.specs.declared.Setup.{Setup}
 use Rattle.rules.proofs.Lists.{neither}
 use Rattle.rules.proofs.Refusals.{unmet-iff}
 use Rattle.rules.proofs.Told.{unless-refused}
-use Rattle.chains.specs.Chains.{mostLinks, far, linksTo, chainOf}
+use Rattle.chains.specs.Chains.{mostLinks, far, fewestLinks, chainOf}
 use Rattle.demand.specs.Routes.{routeCalls, callsFor}
 use Rattle.routes.specs.Reports.{mostRouteNumbers, routeOrder, routeRefusal, routed, roomAfter}
 use Rattle.routes.specs.declared.RouteAnswer.the-variants.{NoRoute, Route, Refused}
@@ -60,21 +61,21 @@ module _ (s : Setup) (a b : ℕ) (room : List ℕ) where
 
   module _ (e : routeRefusal s a b (length room) ≡ 0) where
     -- "No route" writes nothing
-    module _ (h : far ≤ linksTo s b a) where
+    module _ (h : far ≤ fewestLinks (linked s) a b) where
       pub routed-none : routed s a b (length room) ≡ NoRoute
       unfolding routed
-      routed-none = rw (e, le-ltb (linksTo s b a) far h)
+      routed-none = rw (e, le-ltb (fewestLinks (linked s) a b) far h)
 
       pub room-none : roomAfter s a b room ≡ room
       unfolding roomAfter
-      room-none = rw (e, le-ltb (linksTo s b a) far h)
+      room-none = rw (e, le-ltb (fewestLinks (linked s) a b) far h)
 
     -- and else the list is written
-    module _ (h : linksTo s b a < far) where
-      pub routed-shown : routed s a b (length room) ≡ Route (callsFor (linksTo s b a))
+    module _ (h : fewestLinks (linked s) a b < far) where
+      pub routed-shown : routed s a b (length room) ≡ Route (callsFor (fewestLinks (linked s) a b))
       unfolding routed
-      routed-shown = rw (e, lt-ltb (linksTo s b a) far h)
+      routed-shown = rw (e, lt-ltb (fewestLinks (linked s) a b) far h)
 
-      pub room-shown : roomAfter s a b room ≡ inQuads (routeCalls s a (chainOf s a b)) ++ drop (callsFor (linksTo s b a) * callWidth) room
+      pub room-shown : roomAfter s a b room ≡ inQuads (routeCalls s a (chainOf (linked s) a b)) ++ drop (callsFor (fewestLinks (linked s) a b) * callWidth) room
       unfolding roomAfter
-      room-shown = rw (e, lt-ltb (linksTo s b a) far h)
+      room-shown = rw (e, lt-ltb (fewestLinks (linked s) a b) far h)

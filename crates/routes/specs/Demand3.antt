@@ -4,6 +4,7 @@ use mathlib.Core.Path.{_≡_}
 use mathlib.Core.List.{List}
 use lib.ListN.{length, take}
 use Rattle.rules.specs.Calls.{callWidth, callsOf}
+use Rattle.rules.specs.Links.{linked}
 use Rattle.rules.specs.declared.Setup.{Setup}
 use Rattle.chains.specs.Chains.{Taken}
 use Rattle.demand.specs.Routes.{routeCalls, callsFor}
@@ -16,7 +17,7 @@ use Rattle.routes.specs.declared.RouteAnswer.the-variants.{NoRoute, Rout
 pub record ShownBy (s : Setup) (a b n : ℕ) (room : List ℕ) : Type 0 where
   -- a chain of links from a to b; none has fewer, and none of as many has the smaller desk at the first difference
   pub chain : List ℕ
-  pub taken : Taken s a b chain
+  pub taken : Taken (linked s) a b chain
   -- "The list written has 4k+1 calls", and they are those along the chain
   pub count : n ≡ callsFor (length chain)
   pub list : callsOf (take (n * callWidth) room) ≡ routeCalls s a chain

@@ -7,8 +7,9 @@ use lib.ListN.{length, drop}
 use Rattle.rules.specs.Calls.{callWidth, inQuads}
 use Rattle.rules.specs.Refusals.{Refusal, _gives_, firstOf, refusal15}
 use Rattle.rules.specs.Entries.{unless}
+use Rattle.rules.specs.Links.{linked}
 use Rattle.rules.specs.declared.Setup.{Setup}
-use Rattle.chains.specs.Chains.{mostLinks, far, linksTo, chainOf}
+use Rattle.chains.specs.Chains.{mostLinks, far, fewestLinks, chainOf}
 use Rattle.demand.specs.Routes.{routeCalls, callsFor}
 use Rattle.routes.specs.declared.RouteAnswer.{RouteAnswer}
 use Rattle.routes.specs.declared.RouteAnswer.the-variants.{NoRoute, Route, Refused}
@@ -40,15 +41,15 @@ routeRefusal s a b room = firstOf (routeOrder s a b room)
 unfoldable pub routed : Setup → ℕ → ℕ → ℕ → RouteAnswer
 routed s a b room =
     let r = routeRefusal s a b room in
-    let k = linksTo s b a in
+    let k = fewestLinks (linked s) a b in
     unless r (cond (ltb k far) (Route (callsFor k)) NoRoute) (Refused r)
 
 -- the list fills the front of the room, and what lies past it keeps its values; "No route" and a refusal write nothing
 unfoldable pub roomAfter : Setup → ℕ → ℕ → List ℕ → List ℕ
 roomAfter s a b room =
-    let k = linksTo s b a in
+    let k = fewestLinks (linked s) a b in
     unless (routeRefusal s a b (length room))
-    (cond (ltb k far) (inQuads (routeCalls s a (chainOf s a b)) ++ drop (callsFor k * callWidth) room) room)
+    (cond (ltb k far) (inQuads (routeCalls s a (chainOf (linked s) a b)) ++ drop (callsFor k * callWidth) room) room)
     room
 
 -- the answer as two numbers: 0 and 0 for no route, 1 and the number of calls, or 01's 4 and the refusal

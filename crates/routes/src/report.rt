@@ -6,7 +6,7 @@ use crate::ROUTE_NUMBERS;
 use crate::RouteAnswer;
 use crate::writing::write_route;
 use judging::fitting::accepted;
-use reaching::acts::firsts;
+use reaching::linking::links_of;
 use reaching::nearing::FAR;
 use reaching::nearing::reach;
 use rules::Setup;
@@ -59,24 +59,13 @@ pub fn report(setup: Setup, a: u32, b: u32, room: &mut [u32]) -> RouteAnswer
     }
     let from = a as usize;
     let onto = b as usize;
-    let processes = setup.processes as usize;
-    let files = setup.files as usize;
-    let firsts = firsts(setup);
-    let to = reach(
-        processes,
-        files,
-        &setup.rights,
-        &setup.class,
-        &firsts,
-        from,
-        onto,
-        LINKS,
-    );
-    let links = to[from];
-    if FAR <= links {
+    let links = links_of(setup);
+    let to = reach(&links, onto, LINKS);
+    let count = to[from];
+    if FAR <= count {
         return RouteAnswer::NoRoute;
     }
-    write_route(setup, &firsts, &to, from, onto, room);
-    let calls = CALLS_OF_LINK * links as usize + CALLS_AT_END;
+    write_route(setup, &links, &to, from, room);
+    let calls = CALLS_OF_LINK * count as usize + CALLS_AT_END;
     RouteAnswer::Route(calls as u32)
 }

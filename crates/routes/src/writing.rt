@@ -1,8 +1,8 @@
 // Writing the list that shows a route into a lent room.
 use lists::writing::put_call;
+use reaching::acts::file_for;
 use reaching::acts::lowest_process;
-use reaching::acts::serving_file;
-use reaching::leading::desk_after;
+use reaching::leading::next_desk;
 use rules::CODE_OF_COPY;
 use rules::CODE_OF_LOCK;
 use rules::CODE_OF_OPEN;
@@ -11,14 +11,13 @@ use rules::CODE_OF_UNLOCK;
 use rules::CODE_OF_WRITE;
 use rules::Setup;
 ghost use mathlib.Core.Path.{_≡_};
-ghost use mathlib.Core.List.{[], _∷_, _++_};
+ghost use mathlib.Core.List.{_++_};
 ghost use Prim.Native.Nat.{_+_, _*_, _≤_};
-ghost use lib.ListN.{length, drop};
+ghost use lib.ListN.{length, getD, drop};
 ghost use Rattle.rules.specs.Calls.{callWidth, inQuads};
 ghost use Rattle.lists.specs.Writers.{withCalls};
-ghost use Rattle.chains.specs.Chains.{linksTo, chainOf};
-ghost use Rattle.demand.specs.Routes.{routeCalls, callsFor};
-ghost use Rattle.routes.specs.Writers.{startCalls, middleCalls, endCalls, Ready};
+ghost use Rattle.demand.specs.Routes.{startCalls, middleCalls, endCalls, routeCalls, callsFor};
+ghost use Rattle.routes.specs.Writers.{walked, Ready};
 
 // The figure that desk A writes, and the extra number of a call that takes none.
 const SHOWN: u32 = 1;
@@ -60,31 +59,25 @@ fn put_end(room: &mut [u32], i: usize, p: u32, last: u32)
     put_call(room, i + 1, CODE_OF_READ, p, last, NONE);
 }
 
-// The list along the chain from a to b: k links are left from desk d on, and f is the file before it.
-pub fn write_route(setup: Setup, firsts: &[u8], to: &[u8], a: usize, b: usize, room: &mut [u32])
-    requires { ⌜ Ready setup (now firsts) (now to) a b (now room) ⌝ }
-    ensures { λ _. ⌜ now (room .exit) ≡ inQuads (routeCalls setup a (chainOf setup a b)) ++ drop (callsFor (linksTo setup b a) * callWidth) (now (room .entry)) ⌝ }
+// The list along the chain from a: k links are left from desk d on, and f is the file before it.
+pub fn write_route(setup: Setup, links: &[u8], to: &[u8], a: usize, room: &mut [u32])
+    requires { ⌜ Ready setup (now links) (now to) a (now room) ⌝ }
+    ensures { λ _. ⌜ now (room .exit) ≡ inQuads (routeCalls setup a (walked (now (links .entry)) (now (to .entry)) a)) ++ drop (callsFor (getD (now (to .entry)) a 0) * callWidth) (now (room .entry)) ⌝ }
 {
     let mut k = to[a] as usize - 1;
-    let mut d = desk_after(setup, firsts, to, a, k);
-    let mut f = serving_file(setup, a, d);
-    put_start(room, lowest_process(firsts, a) as u32, f as u32);
+    let mut d = next_desk(links, to, a, k);
+    let mut f = file_for(setup, a, d);
+    put_start(room, lowest_process(setup, a) as u32, f as u32);
     let mut i = START_CALLS;
     while 0 < k {
         let left = k - 1;
-        let e = desk_after(setup, firsts, to, d, left);
-        let g = serving_file(setup, d, e);
-        put_middle(
-            room,
-            i,
-            lowest_process(firsts, d) as u32,
-            f as u32,
-            g as u32,
-        );
+        let e = next_desk(links, to, d, left);
+        let g = file_for(setup, d, e);
+        put_middle(room, i, lowest_process(setup, d) as u32, f as u32, g as u32);
         d = e;
         f = g;
         i += MIDDLE_CALLS;
         k = left;
     }
-    put_end(room, i, lowest_process(firsts, b) as u32, f as u32);
+    put_end(room, i, lowest_process(setup, d) as u32, f as u32);
 }

@@ -8,7 +8,7 @@ use mathlib.Core.Logic.{_↔_, ⊎-elim}
 use native.Mathlib.Nat.{not-suc-le-zero, le-of-suc-le-suc, eq-or-lt-of-le}
 use native.Mathlib.Omega.{arith}
 use borrow.Author.Tests.{not-true, not-false}
-use lib.ListN.{length, getD, take, drop, length-take, length-drop, List·getD-eq-default}
+use lib.ListN.{length, getD, take, drop, length-take, length-drop}
 use lib.Seq.{ext-getD, getD-take, getD-drop}
 use Rattle.rules.specs.Sizes.{every, someBelow, table}
 use Rattle.rules.proofs.Lists.{by-test, not-both}
@@ -65,10 +65,6 @@ pub table-is {ℓ} : {A : Type ℓ} (n : ℕ) (f : ℕ → A) (xs : List A) (d :
 table-is n f xs d l h =
     ext-getD d xs (table n f) (l ∙ sym (length-table n f))
     (λ i b. let c : i < n = subst (λ (m : ℕ). i < m) l b in h i c ∙ sym (getD-table n f i d c))
-
--- past the end of a list of n numbers stands 0
-pub past-end : (xs : List ℕ) (i n : ℕ) → length xs ≡ n → n ≤ i → 0 ≡ getD xs i 0
-past-end xs i n l h = sym (List·getD-eq-default xs 0 (omega arith))
 
 -- a condition on the entries of a part is one on the entries of the whole, from the part's start on
 pub every-part : (xs : List ℕ) (start n : ℕ) (p : ℕ → ℕ → Bool) → start + n ≤ length xs

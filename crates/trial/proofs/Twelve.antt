@@ -25,7 +25,8 @@ use Rattle.lists.proofs.Lists.{list-judged, listed-runs, room-runs}
 use Rattle.chains.specs.Chains.{lowest, nearer, reach, nextDesk, walk, chainOf}
 use Rattle.demand.specs.Routes.{onward, routeCalls}
 use Rattle.routes.specs.Reports.{routeRefusal, routed, roomAfter}
-use Rattle.trial.specs.Trials.{setupQ, setup8, inUse, inPairs, answersRoom, writtenInto, Answers, Leaves, Reports, Case, ComesOut, EachComesOut, case1, twelve}
+use Rattle.views.specs.Case8.{setup8}
+use Rattle.trial.specs.Trials.{setupQ, inUse, inPairs, answersRoom, writtenInto, Answers, Leaves, Reports, Case, ComesOut, EachComesOut, case1, twelve}
 
 -- every definition that a case computes with
 unfoldable computes : Bool

@@ -11,6 +11,7 @@ use Rattle.rules.specs.Calls.{Numbers, numbers, codeOfTestlock, callsIn, inQuad
 use Rattle.rules.specs.Entries.{acceptance}
 use Rattle.rules.specs.declared.Setup.{Setup}
 use Rattle.rules.specs.declared.Store.{Store}
+use Rattle.views.specs.Case8.{setup8}
 use Rattle.lists.specs.Lists.{listed}
 use Rattle.lists.specs.Lists as lists
 use Rattle.lists.specs.declared.ListAnswer.the-variants.{Ran}
@@ -21,10 +22,6 @@ use Rattle.routes.specs.Reports as routes
 -- "Setup Q: 3 desks, 2 classes, 3 processes, 2 files; process n sits at desk n, file n has class n; rights 0/0 W, 1/0 R, 1/1 W, 2/1 R."
 abbrev pub setupQ : SetupBytes
 setupQ = setupBytes 3 2 3 2 (2 ∷ 0 ∷ 1 ∷ 2 ∷ 0 ∷ 1 ∷ []) (0 ∷ 1 ∷ 2 ∷ []) (0 ∷ 1 ∷ [])
-
--- 8: "Two desks, one class, one file; process n at desk n; desk 0 R, desk 1 RW."
-abbrev pub setup8 : SetupBytes
-setup8 = setupBytes 2 1 2 1 (1 ∷ 3 ∷ []) (0 ∷ 1 ∷ []) (0 ∷ [])
 
 -- a store of Q that is not fresh: file 0 holds 5, process 0 has it locked, process 1 has it open
 unfoldable pub inUse : Store

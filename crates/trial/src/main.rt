@@ -18,7 +18,8 @@ ghost use mathlib.Core.Bool.{true};
 ghost use Rattle.rules.specs.Setups.{accepted};
 ghost use Rattle.rules.specs.Stores.{freshStore};
 ghost use Rattle.rules.specs.Entries.{acceptance};
-ghost use Rattle.trial.specs.Trials.{setupQ, setup8, inUse};
+ghost use Rattle.views.specs.Case8.{setup8};
+ghost use Rattle.trial.specs.Trials.{setupQ, inUse};
 
 // A room one number short of what every list fits into.
 const SHORT_ROOM: usize = 243;

@@ -1,15 +1,11 @@
 -- `reaching::acts::firsts` meets its contract. The loop's invariant: the first process passed of each desk is noted.
 -- Assumes nothing.
-use Prim.Native.Nat.{ℕ, _-_, _<_}
-use mathlib.Core.Path.{_≡_}
-use mathlib.Core.Bool.{true}
+use Prim.Native.Nat.{_-_}
 use mathlib.Core.Logic.{⊎-elim}
 use native.Mathlib.Omega.{arith}
 use borrow.Author.Needs.{needs}
-use Rattle.rules.specs.Sizes.{mostDesks}
-use Rattle.rules.specs.Setups.{deskOf, accepted}
-use Rattle.rules.specs.declared.Setup.{Setup}
-use Rattle.rules.proofs.Setups.{accepted-sizes, deskOf-lt}
+use Rattle.rules.proofs.Setups.{accepted-sizes}
+use Rattle.reaching.proofs.Linked.{desk-lt}
 use Rattle.reaching.proofs.Seated.{Seated, seated-none, seated-first, seated-more, seated-all}
 use Rattle.reaching.proofs.acts.firsts.Statement.{statement}
 use Rattle.reaching.proofs.acts.firsts.Tie as tie
@@ -19,10 +15,6 @@ Inv-loop setup none firsts₀ p₀ firsts p = Seated setup firsts p
 
 abbrev μ-loop : tie.MeasureT-loop
 μ-loop setup none firsts₀ p₀ firsts p = setup .processes - p
-
--- a process of an accepted setup sits at one of the desks that any setup may have
-desk-lt : (s : Setup) → accepted s ≡ true → (p : ℕ) → p < s .processes → deskOf s p < mostDesks
-desk-lt s e p l = let k = accepted-sizes s e in omega (arith, k .of-desks .high, deskOf-lt s e p (omega (arith, k .of-processes .high)))
 
 cast-none : tie.Need-cast-none Inv-loop μ-loop
 cast-none c = omega (arith, accepted-sizes _ (c .pre) .of-processes .high)

@@ -1,75 +1,71 @@
 -- `reaching::leading::next_desk` meets its contract. The loop's invariant: a link leads to no desk passed.
 -- Assumes nothing.
-use Prim.Native.Nat.{ℕ, _-_, _<_, _≤_}
-use mathlib.Core.Path.{sym, _∙_}
-use mathlib.Core.Logic.{⊎-elim}
-use mathlib.Core.List.{List}
+use Prim.Native.Nat.{_+_, _-_, _*_, _<_}
+use mathlib.Core.Path.{_≡_, ap, _∙_}
+use mathlib.Core.Bool.{not, _&&_}
 use native.Mathlib.Omega.{arith}
 use borrow.Author.Needs.{needs}
-use lib.ListN.{length}
+use lib.Dec.{eqb}
+use lib.ListN.{getD}
 use Rattle.rules.specs.Sizes.{mostDesks}
+use Rattle.rules.proofs.Passed.{passed-none, passed-more}
 use Rattle.chains.specs.Chains.{leads, nextDesk}
-use Rattle.reaching.specs.Filed.{ForTables}
-use Rattle.reaching.proofs.Searched.{Searched, searched-none, searched-more, searched-all, found-at}
-use Rattle.reaching.proofs.Linked.{leads-elsewhere, leads-unlinked, leads-there}
+use Rattle.reaching.specs.Tables.{isMarked, linksIn}
+use Rattle.reaching.proofs.Searched.{Searched, searched-all, found-at}
+use Rattle.reaching.proofs.Linked.{leads-told}
 use Rattle.reaching.proofs.leading.next_desk.Statement.{statement}
 use Rattle.reaching.proofs.leading.next_desk.Tie as tie
 
--- of each setup that the tables are of, a link leads from d to no desk before e that stands k links from the end
-pub record Searching (processes files : ℕ) (rights class firsts to : List ℕ) (d k e : ℕ) : Type 0 where
-  pub before : e ≤ mostDesks
-  pub none : ForTables processes files rights class firsts (λ s. Searched mostDesks (leads s to d k) e)
-
 abbrev Inv-loop : tie.InvT-loop
-Inv-loop processes files rights class firsts to d k e₀ e = Searching processes files rights class firsts to d k e
+Inv-loop links to d k e₀ e = Searched mostDesks (leads (linksIn links) to d k) e
 
 abbrev μ-loop : tie.MeasureT-loop
-μ-loop processes files rights class firsts to d k e₀ e = mostDesks - e
+μ-loop links to d k e₀ e = mostDesks - e
 
 loop-holds : tie.Need-loop-holds Inv-loop μ-loop
-loop-holds c = record { before = omega arith; none = λ s t. searched-none _ _ }
+loop-holds c = passed-none _ _
+
+mul-if2 : tie.Need-mul-if2 Inv-loop μ-loop
+mul-if2 c = search needs
+
+add-if2 : tie.Need-add-if2 Inv-loop μ-loop
+add-if2 c = search needs
 
 shared-slice-read-if2 : tie.Need-shared-slice-read-if2 Inv-loop μ-loop
-shared-slice-read-if2 c = omega (arith, c .before .before .before .before .before .before .before .pre .1)
+shared-slice-read-if2 c = let pre = c .before .before .before .pre in omega (arith, pre .0, c .before .if1 .left)
+
+shared-slice-read-if2-2 : tie.Need-shared-slice-read-if2-2 Inv-loop μ-loop
+shared-slice-read-if2-2 c = let pre = c .before .before .before .before .pre in omega (arith, pre .1, c .before .before .if1 .left)
 
 cast-if2 : tie.Need-cast-if2 Inv-loop μ-loop
-cast-if2 c = omega (arith, c .shared-slice-known5 .given (c .before .before .loop .e))
-
-links-requires : tie.Need-links-requires Inv-loop μ-loop
-links-requires c κs = (c .before .before .before .before .before .before .before .before .pre .0, c .before .before .before .before .before .before .before .before .pre .2, omega (arith, c .before .before .if1 .left))
+cast-if2 c = omega (arith, c .shared-slice-known2 .given (c .before .before .before .loop .e))
 
 add-e : tie.Need-add-e Inv-loop μ-loop
-add-e c = omega (arith, c .before .before .if1 .left)
+add-e c = omega (arith, c .before .before .before .if1 .left)
 
 loop-less : tie.Need-loop-less Inv-loop μ-loop
-loop-less c = omega (arith, c .before .before .if1 .left)
+loop-less c = omega (arith, c .before .before .before .if1 .left)
+
+-- what is tested of desk e is whether a link leads there
+told : (c : tie.After-shared-slice-known2 Inv-loop μ-loop) →
+    let a = c .before .before .before .before .args in let e = c .before .before .before .loop .e in
+    leads (linksIn (a .links .now)) (a .to .now) (a .d) (a .k) e ≡ (isMarked (a .links .now) (a .d * mostDesks + e) && eqb (getD (a .to .now) e 0) (a .k))
+told c =
+    let at = c .before .before .before .before in
+    let e = c .before .before .before .loop .e in
+    let desk : e < mostDesks = omega (arith, c .before .before .if1 .left) in
+    leads-told (at .args .links .now) (at .args .to .now) (at .args .d) (at .args .k) e (at .pre .2) desk (omega (arith, at .pre .1))
 
 loop-again : tie.Need-loop-again Inv-loop μ-loop
-loop-again c =
-    let at = c .before .before .before in
-    let a = c .before .before .before .before .before .before .before .before .args in
-    let there : at .loop .e < length (a .to .now) = omega (arith, c .before .before .before .before .before .before .before .before .pre .1, c .before .before .if1 .left) in
-    record {
-      before = omega (arith, c .before .before .if1 .left);
-      none = λ s t.
-          searched-more _ _ _ (at .loop .inv .none s t) (omega (arith, c .before .before .if1 .left))
-          (⊎-elim (λ w. leads-unlinked s (a .to .now) (a .d) (a .k) (at .loop .e) (sym (w .1 .ensures s t) ∙ w .2 .left))
-          (λ w. leads-elsewhere s (a .to .now) (a .d) (a .k) (at .loop .e) there (w .left)) (c .if2 .came));
-    }
+loop-again c = passed-more _ _ _ (c .before .before .before .before .loop .inv) (omega (arith, c .before .before .before .if1 .left)) (ap not (told (c .before) ∙ c .if2 .left))
 
 returns : tie.Need-returns Inv-loop μ-loop
 unfolding nextDesk
-returns c = λ s t. searched-all _ _ _ (c .before .loop .inv .none s t) (c .if1 .taken)
+returns c = searched-all _ _ _ (c .before .loop .inv) (c .if1 .taken)
 
 returns-2 : tie.Need-returns-2 Inv-loop μ-loop
 unfolding nextDesk
-returns-2 c =
-    let at = c .before .before .before .before .before in
-    let a = c .before .before .before .before .before .before .before .before .before .before .args in
-    let there : at .loop .e < length (a .to .now) = omega (arith, c .before .before .before .before .before .before .before .before .before .before .pre .1, c .before .before .before .before .if1 .left) in
-    λ s t.
-    found-at _ _ _ (at .loop .inv .none s t) (omega (arith, c .before .before .before .before .if1 .left))
-    (leads-there s (a .to .now) (a .d) (a .k) (at .loop .e) there (c .before .before .if2 .taken) (sym (c .before .links .ensures s t) ∙ c .if3 .taken))
+returns-2 c = found-at _ _ _ (c .before .before .before .before .loop .inv) (omega (arith, c .before .before .before .if1 .left)) (told (c .before) ∙ c .if2 .taken)
 
 pub next-desk-spec : {M : Type 1} → statement M
 next-desk-spec =
@@ -78,9 +74,11 @@ next-desk-spec =
     Inv-loop
     μ-loop
     loop-holds
+    mul-if2
+    add-if2
     shared-slice-read-if2
+    shared-slice-read-if2-2
     cast-if2
-    links-requires
     add-e
     loop-less
     loop-again

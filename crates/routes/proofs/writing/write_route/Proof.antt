@@ -15,67 +15,81 @@ use Rattle.rules.proofs.Setups.{accepted-sizes}
 use Rattle.chains.specs.Chains.{processAt}
 use Rattle.chains.proofs.Lowest.{lowest-le}
 use Rattle.lists.specs.Writers.{withCalls}
-use Rattle.routes.specs.Writers.{startCalls}
-use Rattle.routes.proofs.Written.{Left, Written, written-none, written-more, written-all, next-desk-lt, next-file-lt, to-long, firsts-long, some-links, first-link, start-left, route-written}
+use Rattle.reaching.specs.Tables.{linksIn}
+use Rattle.demand.specs.Routes.{startCalls}
+use Rattle.routes.proofs.Written.{Left, Written, written-none, written-more, written-all, desk-next, file-next, start-left, route-written}
 use Rattle.routes.proofs.writing.write_route.Statement.{statement}
 use Rattle.routes.proofs.writing.write_route.Tie as tie
 
 abbrev Inv-loop : tie.InvT-loop
-Inv-loop setup firsts to a b room₀ k₀ d₀ f₀ i₀ room k d f i = Written setup to b room₀ i₀ d₀ f₀ k₀ room i d f k
+Inv-loop setup links to a room₀ k₀ d₀ f₀ i₀ room k d f i = Written setup (linksIn links) to room₀ i₀ d₀ f₀ k₀ room i d f k
 
 abbrev μ-loop : tie.MeasureT-loop
-μ-loop setup firsts to a b room₀ k₀ d₀ f₀ i₀ room k d f i = k
+μ-loop setup links to a room₀ k₀ d₀ f₀ i₀ room k d f i = k
+
+-- The places: from the first link's number its start, from the first desk's process its file, from the loop the first desk's
+-- calls, and from a middle desk's process the loop's test.
+abbrev at-start : tie.After-shared-slice-known3 Inv-loop μ-loop → tie.Start Inv-loop μ-loop
+at-start c = c .before .before .before .before
+
+abbrev at-file : tie.After-lowest-process Inv-loop μ-loop → tie.After-file-for Inv-loop μ-loop
+at-file c = c .before .before
+
+abbrev at-calls : tie.At-loop Inv-loop μ-loop → tie.After-put-start Inv-loop μ-loop
+at-calls c = c .before .before .before
+
+abbrev at-test : tie.After-lowest-process2 Inv-loop μ-loop → tie.In-loop Inv-loop μ-loop
+at-test c = c .before .before .before .before
+
+abbrev start : tie.After-file-for Inv-loop μ-loop → tie.Start Inv-loop μ-loop
+start c = at-start (c .before .before)
+
+abbrev loop-start : tie.At-loop Inv-loop μ-loop → tie.Start Inv-loop μ-loop
+loop-start c = start (at-file (at-calls c .before))
 
 shared-slice-read-k : tie.Need-shared-slice-read-k Inv-loop μ-loop
-shared-slice-read-k c = let pre = c .before .before .before .before .pre in omega (arith, to-long pre, pre .from)
+shared-slice-read-k c = let pre = at-start c .pre in omega (arith, pre .numbers, pre .from)
 
 cast-k : tie.Need-cast-k Inv-loop μ-loop
-cast-k c = omega (arith, c .shared-slice-known3 .given (c .before .before .before .before .args .a))
+cast-k c = omega (arith, c .shared-slice-known3 .given (at-start c .args .a))
 
 sub-k : tie.Need-sub-k Inv-loop μ-loop
-sub-k c = let pre = c .before .before .before .before .pre in omega (arith, pre .numbered, some-links pre)
+sub-k c = omega (arith, at-start c .pre .some)
 
-desk-after-requires : tie.Need-desk-after-requires Inv-loop μ-loop
-desk-after-requires c κs = let pre = c .before .before .before .before .pre in (pre .lowest, to-long pre, pre .from)
+next-desk-requires : tie.Need-next-desk-requires Inv-loop μ-loop
+next-desk-requires c κs = let pre = at-start c .pre in (pre .long, pre .numbers, pre .from)
 
-serving-file-requires : tie.Need-serving-file-requires Inv-loop μ-loop
-serving-file-requires c κs =
-    let pre = c .before .before .before .before .before .pre in
-    (pre .from, rw (c .desk-after .ensures) (start-left pre _ (first-link pre) .is-desk))
+file-for-requires : tie.Need-file-for-requires Inv-loop μ-loop
+file-for-requires c κs = let pre = at-start (c .before) .pre in (pre .from, rw (c .next-desk .ensures) (start-left pre .is-desk))
 
 -- desk a's calls are written, and those of the walk from the next desk on are left
-started : (c : tie.After-serving-file Inv-loop μ-loop) →
-    let at = c .before .before .before .before .before .before .args in
-    let own = startCalls (processAt (at .setup) (at .a)) (c .serving-file .result) in
-    Left (at .setup) (at .to .now) (at .b) (withCalls (at .room .now) 0 own) (length own) (c .before .desk-after .result) (c .serving-file .result) (getD (at .to .now) (at .a) 0 - 1)
-started c =
-    let pre = c .before .before .before .before .before .before .pre in
-    rw (c .serving-file .ensures, c .before .desk-after .ensures) (start-left pre _ (first-link pre))
+started : (c : tie.After-file-for Inv-loop μ-loop) →
+    let at = start c .args in
+    let calls = startCalls (processAt (at .setup) (at .a)) (c .file-for .result) in
+    Left (linksIn (at .links .now)) (at .to .now) (withCalls (at .room .now) 0 calls) (length calls) (c .before .next-desk .result) (c .file-for .result)
+    (getD (at .to .now) (at .a) 0 - 1)
+started c = rw (c .file-for .ensures, c .before .next-desk .ensures) (start-left (start c .pre))
 
 lowest-process-requires : tie.Need-lowest-process-requires Inv-loop μ-loop
-lowest-process-requires c κs = let pre = c .before .before .before .before .before .before .before .pre in (firsts-long pre, pre .from)
+lowest-process-requires c κs = let pre = start (c .before) .pre in (pre .setup, pre .from)
 
 -- a desk's lowest process is one that any setup may have, or none
 process-le : (s : Setup) → accepted s ≡ true → (d : ℕ) → processAt s d ≤ mostProcesses
 process-le s e d = omega (arith, lowest-le (s .processes) (λ p. eqb (deskOf s p) d), accepted-sizes s e .of-processes .high)
 
 cast-put-start : tie.Need-cast-put-start Inv-loop μ-loop
-cast-put-start c = let pre = c .before .before .before .before .before .before .before .before .pre in omega (arith, c .lowest-process .ensures (c .before .before .before .before .before .before .before .before .args .setup) (pre .lowest), process-le (c .before .before .before .before .before .before .before .before .args .setup) (pre .setup) (c .before .before .before .before .before .before .before .before .args .a))
+cast-put-start c = let at = start (at-file c) in omega (arith, c .lowest-process .ensures, process-le (at .args .setup) (at .pre .setup) (at .args .a))
 
 cast-put-start-2 : tie.Need-cast-put-start-2 Inv-loop μ-loop
-cast-put-start-2 c = omega (arith, started (c .before .before) .is-file)
+cast-put-start-2 c = omega (arith, started (at-file c) .is-file)
 
 put-start-requires : tie.Need-put-start-requires Inv-loop μ-loop
-put-start-requires c κs = omega (arith, c .before .before .before .before .before .before .before .before .pre .spacious)
+put-start-requires c κs = omega (arith, start (at-file c) .pre .spacious)
 
 loop-holds : tie.Need-loop-holds Inv-loop μ-loop
 loop-holds c =
-    let at = c .before .before .before .before .before .before .before .before .before .before .before in
-    written-none (rw (c .before .before .put-start .ensures, c .before .before .before .lowest-process .ensures (at .args .setup) (at .pre .lowest)) (started (c .before .before .before .before .before)))
-
--- where the function starts, from its loop
-abbrev start : tie.At-loop Inv-loop μ-loop → tie.Start Inv-loop μ-loop
-start c = c .before .before .before .before .before .before .before .before .before .before .before .before
+    let put = c .before .before in
+    written-none (rw (put .put-start .ensures, put .before .lowest-process .ensures) (started (at-file (put .before))))
 
 -- a link is left, so one less is left after it
 more : (c : tie.In-loop Inv-loop μ-loop) → c .before .loop .k ≡ suc (c .before .loop .k - 1)
@@ -84,57 +98,64 @@ more c = omega arith
 sub-left : tie.Need-sub-left Inv-loop μ-loop
 sub-left c = omega arith
 
-desk-after-requires-2 : tie.Need-desk-after-requires-2 Inv-loop μ-loop
-desk-after-requires-2 c κs = let pre = c .before .before .before .before .before .before .before .before .before .before .before .before .before .pre in (pre .lowest, to-long pre, c .before .loop .inv .left .is-desk)
+next-desk-requires-2 : tie.Need-next-desk-requires-2 Inv-loop μ-loop
+next-desk-requires-2 c κs = let pre = loop-start (c .before) .pre in (pre .long, pre .numbers, c .before .loop .inv .left .is-desk)
 
-serving-file-requires-2 : tie.Need-serving-file-requires-2 Inv-loop μ-loop
-serving-file-requires-2 c κs =
+file-for-requires-2 : tie.Need-file-for-requires-2 Inv-loop μ-loop
+file-for-requires-2 c κs =
     let at = c .before .before in
-    (at .loop .inv .left .is-desk, rw (c .desk-after2 .ensures) (next-desk-lt (at .loop .inv) (c .before .before .before .before .before .before .before .before .before .before .before .before .before .before .pre .setup) _ (more (c .before))))
+    let pre = loop-start at .pre in
+    (at .loop .inv .left .is-desk, rw (c .next-desk2 .ensures) (desk-next (at .loop .inv) (pre .setup) (pre .own) _ (more (c .before))))
 
 lowest-process-requires-2 : tie.Need-lowest-process-requires-2 Inv-loop μ-loop
-lowest-process-requires-2 c κs = (firsts-long (c .before .before .before .before .before .before .before .before .before .before .before .before .before .before .before .before .pre), c .before .before .before .before .loop .inv .left .is-desk)
+lowest-process-requires-2 c κs = let at = c .before .before .before .before in (loop-start at .pre .setup, at .loop .inv .left .is-desk)
 
 cast-put-middle : tie.Need-cast-put-middle Inv-loop μ-loop
-cast-put-middle c = let pre = c .before .before .before .before .before .before .before .before .before .before .before .before .before .before .before .before .before .pre in omega (arith, c .lowest-process2 .ensures (c .before .before .before .before .before .before .before .before .before .before .before .before .before .before .before .before .before .args .setup) (pre .lowest), process-le (c .before .before .before .before .before .before .before .before .before .before .before .before .before .before .before .before .before .args .setup) (pre .setup) (c .before .before .before .before .before .loop .d))
+cast-put-middle c =
+    let at = at-test c .before in
+    let first = loop-start at in
+    omega (arith, c .lowest-process2 .ensures, process-le (first .args .setup) (first .pre .setup) (at .loop .d))
 
 cast-put-middle-2 : tie.Need-cast-put-middle-2 Inv-loop μ-loop
-cast-put-middle-2 c = omega (arith, c .before .before .before .before .before .loop .inv .left .is-file)
+cast-put-middle-2 c = omega (arith, at-test c .before .loop .inv .left .is-file)
 
 cast-put-middle-3 : tie.Need-cast-put-middle-3 Inv-loop μ-loop
 cast-put-middle-3 c =
-    let at = c .before .before .before .before .before in
-    let small : c .before .before .serving-file2 .result < mostFiles = rw (c .before .before .serving-file2 .ensures, c .before .before .before .desk-after2 .ensures) (next-file-lt (at .loop .inv) (c .before .before .before .before .before .before .before .before .before .before .before .before .before .before .before .before .before .pre .setup) _ (more (c .before .before .before .before))) in
+    let at = at-test c .before in
+    let pre = loop-start at .pre in
+    let file = c .before .before in
+    let small : file .file-for2 .result < mostFiles = rw (file .file-for2 .ensures, file .before .next-desk2 .ensures) (file-next (at .loop .inv) (pre .setup) (pre .own) _ (more (at-test c))) in
     omega arith
 
 put-middle-requires : tie.Need-put-middle-requires Inv-loop μ-loop
-put-middle-requires c κs = omega (arith, c .before .before .before .before .before .loop .inv .left .spacious, c .before .before .before .before .loop-test .taken)
+put-middle-requires c κs = omega (arith, at-test c .before .loop .inv .left .spacious, at-test c .loop-test .taken)
 
 add-i : tie.Need-add-i Inv-loop μ-loop
 add-i c =
-    let at = c .before .before .before .before .before .before .before .before in
-    omega (arith, at .loop .inv .left .spacious, at .loop .inv .kept, c .before .before .before .before .before .before .before .loop-test .taken, c .before .before .before .before .before .before .before .before .before .before .before .before .before .before .before .before .before .before .before .before .good)
+    let test = at-test (c .before .before .before) in
+    omega (arith, test .before .loop .inv .left .spacious, test .before .loop .inv .kept, test .loop-test .taken, loop-start (test .before) .good)
 
 loop-less : tie.Need-loop-less Inv-loop μ-loop
-loop-less c = omega (arith, c .before .before .before .before .before .before .before .loop-test .taken)
+loop-less c = omega (arith, at-test (c .before .before .before) .loop-test .taken)
 
 loop-again : tie.Need-loop-again Inv-loop μ-loop
 loop-again c =
-    let at = c .before .before .before .before .before .before .before .before in
-    let pre = c .before .before .before .before .before .before .before .before .before .before .before .before .before .before .before .before .before .before .before .before .pre in
-    rw (
-      c .before .before .put-middle .ensures,
-      c .before .before .before .before .before .serving-file2 .ensures,
-      c .before .before .before .before .before .before .desk-after2 .ensures,
-      c .before .before .before .lowest-process2 .ensures (c .before .before .before .before .before .before .before .before .before .before .before .before .before .before .before .before .before .before .before .before .args .setup) (pre .lowest),
-    )
-    (written-more (at .loop .inv) (pre .setup) _ (more (c .before .before .before .before .before .before .before)))
+    let put = c .before .before in
+    let process = put .before in
+    let file = process .before .before in
+    let test = at-test process in
+    let pre = loop-start (test .before) .pre in
+    rw (put .put-middle .ensures, file .file-for2 .ensures, file .before .next-desk2 .ensures, process .lowest-process2 .ensures)
+    (written-more (test .before .loop .inv) (pre .setup) (pre .own) _ (more test))
 
 lowest-process-requires-3 : tie.Need-lowest-process-requires-3 Inv-loop μ-loop
-lowest-process-requires-3 c κs = (firsts-long (c .before .before .before .before .before .before .before .before .before .before .before .before .before .before .pre), c .before .before .before .before .before .before .before .before .before .before .before .before .before .before .pre .onto)
+lowest-process-requires-3 c κs = let at = c .before .before in (loop-start at .pre .setup, at .loop .inv .left .is-desk)
 
 cast-put-end : tie.Need-cast-put-end Inv-loop μ-loop
-cast-put-end c = let pre = c .before .before .before .before .before .before .before .before .before .before .before .before .before .before .before .pre in omega (arith, c .lowest-process3 .ensures (c .before .before .before .before .before .before .before .before .before .before .before .before .before .before .before .args .setup) (pre .lowest), process-le (c .before .before .before .before .before .before .before .before .before .before .before .before .before .before .before .args .setup) (pre .setup) (c .before .before .before .before .before .before .before .before .before .before .before .before .before .before .before .args .b))
+cast-put-end c =
+    let at = c .before .before .before in
+    let first = loop-start at in
+    omega (arith, c .lowest-process3 .ensures, process-le (first .args .setup) (first .pre .setup) (at .loop .d))
 
 cast-put-end-2 : tie.Need-cast-put-end-2 Inv-loop μ-loop
 cast-put-end-2 c = omega (arith, c .before .before .before .loop .inv .left .is-file)
@@ -147,18 +168,12 @@ same-length c = search needs
 
 returns : tie.Need-returns Inv-loop μ-loop
 returns c =
-    let at = c .before .before .before .before .before .before in
-    let pre = c .before .before .before .before .before .before .before .before .before .before .before .before .before .before .before .before .before .before .pre in
-    rw (
-      c .before .before .put-end .ensures,
-      c .before .before .before .lowest-process3 .ensures (c .before .before .before .before .before .before .before .before .before .before .before .before .before .before .before .before .before .before .args .setup) (pre .lowest),
-      written-all (at .loop .inv) (omega (arith, c .before .before .before .before .before .loop-test .left)),
-      c .before .before .before .before .before .before .before .before .before .put-start .ensures,
-      c .before .before .before .before .before .before .before .before .before .before .before .before .serving-file .ensures,
-      c .before .before .before .before .before .before .before .before .before .before .before .before .before .desk-after .ensures,
-      c .before .before .before .before .before .before .before .before .before .before .lowest-process .ensures (c .before .before .before .before .before .before .before .before .before .before .before .before .before .before .before .before .before .before .args .setup) (pre .lowest),
-    )
-    (route-written pre _ (first-link pre))
+    let put = c .before .before in
+    let after = put .before .before .before in
+    let first = at-calls (after .before) in
+    let file = at-file (first .before) in
+    rw (put .put-end .ensures, put .before .lowest-process3 .ensures, written-all (after .before .loop .inv) (omega (arith, after .loop-test .left)), first .put-start .ensures)
+    (route-written (start file .pre) (first .before .lowest-process .ensures) (file .before .next-desk .ensures) (file .file-for .ensures))
 
 pub write-route-spec : {M : Type 1} → statement M
 write-route-spec =
@@ -169,16 +184,16 @@ write-route-spec =
     shared-slice-read-k
     cast-k
     sub-k
-    desk-after-requires
-    serving-file-requires
+    next-desk-requires
+    file-for-requires
     lowest-process-requires
     cast-put-start
     cast-put-start-2
     put-start-requires
     loop-holds
     sub-left
-    desk-after-requires-2
-    serving-file-requires-2
+    next-desk-requires-2
+    file-for-requires-2
     lowest-process-requires-2
     cast-put-middle
     cast-put-middle-2
