@@ -20,8 +20,18 @@ loop-holds : tie.Need-loop-holds Inv-loop μ-loop
 unfolding someBelow every
 loop-holds c = (omega arith, refl)
 
+-- The places: from the loop its start, and from each look at a right the loop's test.
+abbrev start : tie.At-loop Inv-loop μ-loop → tie.Start Inv-loop μ-loop
+start c = c .before .before .before
+
+abbrev at-write : tie.After-shared-slice-known4 Inv-loop μ-loop → tie.In-loop Inv-loop μ-loop
+at-write c = c .before .before
+
+abbrev at-read : tie.After-shared-slice-known5 Inv-loop μ-loop → tie.In-loop Inv-loop μ-loop
+at-read c = at-write (c .before .before)
+
 shared-slice-read-some : tie.Need-shared-slice-read-some Inv-loop μ-loop
-shared-slice-read-some c = omega (arith, c .before .before .before .before .before .pre .1, c .before .loop-test .taken)
+shared-slice-read-some c = let at = c .before in omega (arith, start (at .before) .pre .1, at .loop-test .taken)
 
 mul-has-w : tie.Need-mul-has-w Inv-loop μ-loop
 mul-has-w c = search needs
@@ -30,7 +40,7 @@ add-has-w : tie.Need-add-has-w Inv-loop μ-loop
 add-has-w c = search needs
 
 shared-slice-read-has-w : tie.Need-shared-slice-read-has-w Inv-loop μ-loop
-shared-slice-read-has-w c = let at = c .before .before .before .before .before .before in omega (arith, at .pre .0, c .before .before .loop-test .taken)
+shared-slice-read-has-w c = let at = at-write c in omega (arith, start (at .before) .pre .0, at .loop-test .taken)
 
 has-w-requires : tie.Need-has-w-requires Inv-loop μ-loop
 has-w-requires c κs = search needs
@@ -42,27 +52,27 @@ add-has-r : tie.Need-add-has-r Inv-loop μ-loop
 add-has-r c = search needs
 
 shared-slice-read-has-r : tie.Need-shared-slice-read-has-r Inv-loop μ-loop
-shared-slice-read-has-r c =
-    let at = c .before .before .before .before .before .before .before .before in omega (arith, at .pre .0, c .before .before .before .before .loop-test .taken)
+shared-slice-read-has-r c = let at = at-read c in omega (arith, start (at .before) .pre .0, at .loop-test .taken)
 
 has-r-requires : tie.Need-has-r-requires Inv-loop μ-loop
 has-r-requires c κs = search needs
 
 add-t : tie.Need-add-t Inv-loop μ-loop
-add-t c = omega (arith, c .before .before .before .before .before .loop-test .taken)
+add-t c = omega (arith, at-read (c .before) .loop-test .taken)
 
 loop-less : tie.Need-loop-less Inv-loop μ-loop
-loop-less c = omega (arith, c .before .before .before .before .before .loop-test .taken)
+loop-less c = omega (arith, at-read (c .before) .loop-test .taken)
 
 loop-again : tie.Need-loop-again Inv-loop μ-loop
 loop-again c =
-    let at-loop = c .before .before .before .before .before .before in
-    (omega (arith, c .before .before .before .before .before .loop-test .taken), rw (c .has-r .ensures, c .before .before .has-w .ensures, at-loop .loop .inv .1) (sym (some-more (at-loop .loop .t) _)))
+    let test = at-read (c .before) in
+    let so-far = test .before .loop in
+    (omega (arith, test .loop-test .taken), rw (c .has-r .ensures, c .before .before .has-w .ensures, so-far .inv .1) (sym (some-more (so-far .t) _)))
 
 returns : tie.Need-returns Inv-loop μ-loop
 returns c =
     let all : c .before .loop .t ≡ mostClasses = omega (arith, c .before .loop .inv .0, c .loop-test .left) in
-    let a = c .before .before .before .before .args in
+    let a = start (c .before) .args in
     c .before .loop .inv .1 ∙ ap (λ (n : ℕ). someBelow n (serving (a .rights .now) (a .filed .now) (a .d) (a .e))) all
 
 pub is-served-spec : {M : Type 1} → statement M

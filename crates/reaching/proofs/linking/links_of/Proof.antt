@@ -47,7 +47,8 @@ pairs-of-requires c κs = search needs
 
 returns : tie.Need-returns
 returns c =
-    let second = c .before .before .before .before .before .before .before in
+    let lent = c .before .before .before .before in
+    let second = lent .before .before .before in
     let first = first-call (second .before) in
     let at = start (first .before) in
     rw (c .pairs-of .ensures, second .mark-each2 .ensures, first .mark-each .ensures) (links-told (at .args .t1) (at .pre))

@@ -54,10 +54,12 @@ reach-stands-requires t c κs = search needs
 
 reach-returns-2 : (t : ℕ) → reach-lts.Need-returns-2 (calls t) (reach-at t) reach.Post
 reach-returns-2 t c =
-    let at = c .before .before .before .before .before .before in
+    let less = c .before .before .before in
+    let test = less .before in
+    let at = test .before .before in
     let links = linksIn (at .args .links .now) in
-    none-stands links (at .args .b) _ (at .args .n - 1) (c .before .before .before .reach .ensures) (omega (arith, at .pre .1 .2)) (fails (c .before .stands .ensures) (c .if2 .taken))
-    ∙ reach-more links (at .args .b) (at .args .n) (c .before .before .before .before .if1 .left)
+    none-stands links (at .args .b) _ (at .args .n - 1) (less .reach .ensures) (omega (arith, at .pre .1 .2)) (fails (c .before .stands .ensures) (c .if2 .taken))
+    ∙ reach-more links (at .args .b) (at .args .n) (test .if1 .left)
 
 reach-slice-aggregate-nearer : (t : ℕ) → reach-lts.Need-slice-aggregate-nearer (calls t) (reach-at t) reach.Post
 reach-slice-aggregate-nearer t c = search needs
@@ -67,9 +69,10 @@ reach-nearer-requires t c κs = search needs
 
 reach-returns-3 : (t : ℕ) → reach-lts.Need-returns-3 (calls t) (reach-at t) reach.Post
 reach-returns-3 t c =
-    let at = c .before .before .before .before .before .before .before .before in
-    rw (c .nearer .ensures, c .before .before .before .before .before .reach .ensures)
-    (reach-more (linksIn (at .args .links .now)) (at .args .b) (at .args .n) (c .before .before .before .before .before .before .if1 .left))
+    let less = c .before .before .before .before .before in
+    let test = less .before in
+    let at = test .before .before in
+    rw (c .nearer .ensures, less .reach .ensures) (reach-more (linksIn (at .args .links .now)) (at .args .b) (at .args .n) (test .if1 .left))
 
 pub +reach-spec : {M : Type 1} → statement M
 +reach-spec = close μ-reach λ t. reach-lts.spec (calls t)

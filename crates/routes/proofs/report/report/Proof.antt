@@ -45,7 +45,8 @@ returns c =
     let at = start (c .before) .args in
     let e = c .before .route-refusal .ensures in
     let h : routeRefusal (at .setup) (at .a) (at .b) (length (at .room .now)) ≢ 0 = λ z. c .if1 .taken (e ∙ z) in
-    promised (at .setup) (at .a) (at .b) (at .room .now) (rw (routed-refused (at .setup) (at .a) (at .b) (at .room .now) h) (simp e)) (sym (room-refused (at .setup) (at .a) (at .b) (at .room .now) h))
+    promised (at .setup) (at .a) (at .b) (at .room .now) (rw (routed-refused (at .setup) (at .a) (at .b) (at .room .now) h) (simp e))
+    (sym (room-refused (at .setup) (at .a) (at .b) (at .room .now) h))
 
 -- no refusal is given: the setup is accepted, and the two desks are below the most desks
 unrefused : (c : tie.Else1) → (let at = start (c .before) .args in routeRefusal (at .setup) (at .a) (at .b) (length (at .room .now)) ≡ 0)
@@ -79,7 +80,8 @@ returns-2 c =
     let at = start (test .before) .args in
     let e = unrefused test in
     let h : far ≤ fewestLinks (linked (at .setup)) (at .a) (at .b) = omega (arith, counted (c .before), c .if2 .taken) in
-    promised (at .setup) (at .a) (at .b) (at .room .now) (sym (routed-none (at .setup) (at .a) (at .b) (at .room .now) e h)) (sym (room-none (at .setup) (at .a) (at .b) (at .room .now) e h))
+    promised (at .setup) (at .a) (at .b) (at .room .now) (sym (routed-none (at .setup) (at .a) (at .b) (at .room .now) e h))
+    (sym (room-none (at .setup) (at .a) (at .b) (at .room .now) e h))
 
 slice-aggregate-write-route : tie.Need-slice-aggregate-write-route
 slice-aggregate-write-route c = search needs
