@@ -180,9 +180,9 @@ dw_answer peer_run(const dw_setup *setup, dw_store *store, const uint32_t *calls
     if (refusal != 0)
         return answer(DW_REFUSED, refusal);
     if (calls_len % DW_CALL_WIDTH != 0 || count > DW_CALLS)
-        return answer(DW_REFUSED, 10);
+        return answer(DW_REFUSED, DW_REFUSAL_LENGTH);
     if (answers_len < count * DW_ANSWER_WIDTH)
-        return answer(DW_REFUSED, 11);
+        return answer(DW_REFUSED, DW_REFUSAL_ROOM);
     for (size_t i = 0; i < count; i++, calls += DW_CALL_WIDTH, answers += DW_ANSWER_WIDTH) {
         dw_answer a = step(setup, store, calls[0], calls[1], calls[2], calls[3]);
 
@@ -296,13 +296,13 @@ dw_answer peer_route(const dw_setup *setup, uint32_t a, uint32_t b, uint32_t *ro
     struct search r = {.s = setup};
 
     if (!accepted(setup))
-        return answer(DW_REFUSED, 15);
+        return answer(DW_REFUSED, DW_REFUSAL_SETUP);
     if (a >= setup->desks || b >= setup->desks)
-        return answer(DW_REFUSED, 12);
+        return answer(DW_REFUSED, DW_REFUSAL_ROUTE_DESK);
     if (a == b)
-        return answer(DW_REFUSED, 13);
+        return answer(DW_REFUSED, DW_REFUSAL_SAME_DESK);
     if (room_len < DW_ROUTE_NUMBERS)
-        return answer(DW_REFUSED, 11);
+        return answer(DW_REFUSED, DW_REFUSAL_ROOM);
     find_firsts(&r);
     search_back(&r, a, b);
     if (r.links[a] == DW_DESKS)

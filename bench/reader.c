@@ -85,9 +85,9 @@ static uint32_t take_access(cursor *c, dw_setup *s, uint32_t *least)
     if (!take_number(c, '\t', &desk) || !take_number(c, '\t', &class) || (right = take_right(c)) == DW_NONE)
         return BROKEN;
     if (desk >= s->desks)
-        return 3;
+        return DW_REFUSAL_DESK;
     if (class >= s->classes)
-        return 4;
+        return DW_REFUSAL_CLASS;
     place = desk * DW_CLASSES + class;
     if (place < *least)
         return BROKEN;

@@ -9,6 +9,12 @@
  * lie in memory as the library has them is tested, not proved. A setup or a store with any
  * bytes in it may be handed in: it is judged first, and refused with 15 or 16 where it is unsound.
  *
+ * Refusals. What cannot be done is refused with a number, DW_REFUSAL_*; each function's comment names those
+ * that it gives, in their order. A function that hands back a setup or a store tells a refusal in `refusal`,
+ * which is else 0; every other tells it as an answer of the kind DW_REFUSED with the number as its value. A
+ * refused function changes nothing: a store comes back, or lies there, as it was, and nothing is written to
+ * what was lent.
+ *
  * What is asked in return, of pointers alone, since nothing can judge them:
  *   - no pointer is null, not even beside a length of 0;
  *   - it points at as many entries as its length says (a dw_store * at one store), aligned as its
@@ -44,6 +50,10 @@ typedef __SIZE_TYPE__ size_t;
 #ifdef __cplusplus
 extern "C" {
 #endif
+
+/* The version of this header and its library: of document 01 and the requests after it that are in. It goes up when
+ * a struct, a function or a meaning changes. */
+#define DW_VERSION 1
 
 /* ---- Sizes: the most of each thing. There is at least one of each, but a list of calls may be empty. */
 
@@ -101,30 +111,33 @@ extern "C" {
 #define DW_NO 3      /* value 0 */
 #define DW_REFUSED 4 /* value: the refusal's number */
 
+/* What becomes of a list or of a text, as a kind; DW_REFUSED is one too. It is no DW_NOTHING: its value counts calls. */
+#define DW_DONE 0 /* value: the number of calls run, or read */
+
 /* What the route report answers, as a kind; DW_REFUSED is one too. */
 #define DW_NO_ROUTE 0 /* value 0 */
 #define DW_ROUTE 1    /* value: the number of calls written */
 
-/* ---- Refusals. Each is given exactly where its words hold and none earlier in the function's order does.
- *
- *    1  a setup count lies outside its sizes
- *    2  a right is above 3
- *    3  a desk number in a setup is the number of desks or more
- *    4  a class number in a setup is the number of classes or more
- *    5  the operation is not 1 to 8
- *    6  p is the number of processes or more
- *    7  f is the number of files or more, or x is, for COPY
- *    8  x is not 0, for the operations other than WRITE and COPY
- *    9  COPY with x equal to f
- *   10  the lengths of a setup's runs do not match its counts; or a list's length is not a multiple
- *       of 4, or is above 4096
- *   11  room for answers shorter than two numbers a call; or room for a route below 244 numbers; or room
- *       for the calls of a text below 4096
- *   12  a route desk is the number of desks or more
- *   13  the two route desks are equal
- *   14  a text breaks the line rules
- *   15  a setup that could not have been accepted
- *   16  a store that does not fit its setup */
+/* ---- Refusals. Each is given exactly where its words hold and none earlier in the function's order does. */
+
+#define DW_REFUSAL_COUNT 1        /* a setup count lies outside its sizes */
+#define DW_REFUSAL_RIGHT 2        /* a right is above 3 */
+#define DW_REFUSAL_DESK 3         /* a desk number in a setup is the number of desks or more */
+#define DW_REFUSAL_CLASS 4        /* a class number in a setup is the number of classes or more */
+#define DW_REFUSAL_OPERATION 5    /* the operation is not 1 to 8 */
+#define DW_REFUSAL_PROCESS 6      /* p is the number of processes or more */
+#define DW_REFUSAL_FILE 7         /* f is the number of files or more, or x is, for COPY */
+#define DW_REFUSAL_EXTRA 8        /* x is not 0, for the operations other than WRITE and COPY */
+#define DW_REFUSAL_COPY 9         /* COPY with x equal to f */
+#define DW_REFUSAL_LENGTH 10      /* the lengths of a setup's runs do not match its counts; or a list's length is
+                                     not a multiple of DW_CALL_WIDTH, or is above DW_CALL_NUMBERS */
+#define DW_REFUSAL_ROOM 11        /* room for answers shorter than two numbers a call; or room for a route below
+                                     DW_ROUTE_NUMBERS; or room for the calls of a text below DW_CALL_NUMBERS */
+#define DW_REFUSAL_ROUTE_DESK 12  /* a route desk is the number of desks or more */
+#define DW_REFUSAL_SAME_DESK 13   /* the two route desks are equal */
+#define DW_REFUSAL_LINE 14        /* a text breaks the line rules */
+#define DW_REFUSAL_SETUP 15       /* a setup that could not have been accepted */
+#define DW_REFUSAL_STORE 16       /* a store that does not fit its setup */
 
 /* ---- Structs. Fields lie in this order with nothing between them; every number is in the machine's order. */
 
@@ -155,7 +168,8 @@ typedef struct dw_given_setup {
 
 typedef struct dw_given_store {
     uint32_t refusal;               /* 0 where a store is given */
-    dw_store store;                 /* else its open marks are all 2, so that it fits no setup */
+    dw_store store;                 /* else nothing is locked, all figures are 0 and all open marks are 2: it fits
+                                       no setup */
 } dw_given_store;                   /* 2308 bytes */
 
 typedef struct dw_answer {
@@ -171,14 +185,15 @@ typedef struct dw_called {
 
 /* What became of a list as a whole, and the store after it. */
 typedef struct dw_listed {
-    dw_answer answer;               /* kind 0 and the number of calls run; or DW_REFUSED and the number */
+    dw_answer answer;               /* DW_DONE and the number of calls run; or DW_REFUSED and the number */
     dw_store store;
 } dw_listed;                        /* 2312 bytes */
 
 /* What became of a text, and the setup that was read. */
 typedef struct dw_text {
-    dw_answer answer;               /* kind 0 and the number of calls read; or DW_REFUSED and the number */
-    size_t offset;                  /* where the text is refused, of the faulty line's first byte; else 0 */
+    dw_answer answer;               /* DW_DONE and the number of calls read; or DW_REFUSED and the number */
+    size_t offset;                  /* where the text is refused, of the faulty line's first byte, or the text's length
+                                       for a missing line; 0 for too little room, and where nothing is refused */
     dw_setup setup;                 /* where the text is refused, all of it is 0 */
 } dw_text;                          /* 384 bytes */
 
@@ -218,7 +233,7 @@ dw_listed dw_run(dw_setup setup, dw_store store, const uint32_t *calls, size_t c
                  uint32_t *answers, size_t answers_len);
 
 /* Whether desk b can ever hear desk a. A call belongs to the desk of its process; one of a process that
- * does not exist belongs to none. DW_NO_ROUTE is answered exactly when, for every list of calls from a
+ * does not exist belongs to none. Where nothing is refused, DW_NO_ROUTE is answered exactly when, for every list of calls from a
  * fresh store, striking out a's calls changes none of b's answers. Otherwise a list of calls that shows
  * the difference is written to the front of room, four numbers a call, for dw_run: run from a fresh store
  * it gives b a last answer of figure 1, and of figure 0 with a's calls struck out.
@@ -241,7 +256,7 @@ dw_answer dw_route(dw_setup setup, uint32_t a, uint32_t b, uint32_t *room, size_
 dw_text dw_read_alone(const uint8_t *text, size_t text_len);
 
 /* A setup text and the call text that follows it: `calls`, `1`; then up to 1024 lines, each a word (`read`,
- * `write`, `lock`, `unlock`, `open`, `close`, `testlock`, `copy`), p, f, and for `write` and `copy` x. The
+ * `write`, `lock`, `unlock`, `open`, `close`, `testlock`, `copy`), p, f, and for `write` and `copy` x; elsewhere x is read as 0. The
  * calls fill the front of room, four numbers each as dw_run takes them; what lies past them keeps its values.
  * Refusals: 11, with offset 0; then those of the text's lines. A refusal writes nothing. A call's own refusals
  * belong to running it. room must not overlap the text. The calls are read into a place on the stack first,

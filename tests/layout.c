@@ -240,9 +240,9 @@ static void count_is_read(dw_setup *s, uint32_t *count, uint32_t most)
     uint32_t was = *count;
 
     *count = 0;
-    CHECK(fresh_refusal(s) == 15);
+    CHECK(fresh_refusal(s) == DW_REFUSAL_SETUP);
     *count = most + 1;
-    CHECK(fresh_refusal(s) == 15);
+    CHECK(fresh_refusal(s) == DW_REFUSAL_SETUP);
     *count = was;
     CHECK(fresh_refusal(s) == 0);
 }
@@ -272,11 +272,11 @@ static void entry_is_read(dw_setup *s, uint8_t *entry, uint32_t most)
     uint8_t was = *entry;
 
     *entry = (uint8_t)most;
-    CHECK(own_route_refusal(s) == 13);
+    CHECK(own_route_refusal(s) == DW_REFUSAL_SAME_DESK);
     *entry = (uint8_t)(most + 1);
-    CHECK(own_route_refusal(s) == 15);
+    CHECK(own_route_refusal(s) == DW_REFUSAL_SETUP);
     *entry = 255;
-    CHECK(own_route_refusal(s) == 15);
+    CHECK(own_route_refusal(s) == DW_REFUSAL_SETUP);
     *entry = was;
 }
 
@@ -384,7 +384,7 @@ static void judges_numbers(const dw_setup *s, dw_store *m, uint32_t f)
     uint32_t p = f * 2 % P;
 
     CHECK(judged_with(s, m, &m->figures[f], 0xFFFFFFFFu) == (f < F ? 0 : 16));
-    CHECK(judged_with(s, m, &m->holders[f], P + 1) == 16);
+    CHECK(judged_with(s, m, &m->holders[f], P + 1) == DW_REFUSAL_STORE);
     CHECK(judged_with(s, m, &m->holders[f], p + 1) == (f < F && right_of(s, p, f) & DW_W ? 0 : 16));
 }
 
@@ -395,7 +395,7 @@ static void judges_mark(const dw_setup *s, dw_store *m, uint32_t f, uint32_t p)
     *mark = 1;
     CHECK(dw_judge(*s, *m) == (f < F && p < P && right_of(s, p, f) & DW_R ? 0 : 16));
     *mark = 2;
-    CHECK(dw_judge(*s, *m) == 16);
+    CHECK(dw_judge(*s, *m) == DW_REFUSAL_STORE);
     *mark = 0;
 }
 
@@ -473,13 +473,13 @@ static void gives_setups(void)
 
     rights.bytes[D * T - 1] = 4;
     given = accept_from(&rights, &desks, &classes);
-    CHECK(given.refusal == 2 && memcmp(&given.setup, &blank, sizeof blank) == 0);
+    CHECK(given.refusal == DW_REFUSAL_RIGHT && memcmp(&given.setup, &blank, sizeof blank) == 0);
     rights.bytes[D * T - 1] = 0;
     desks.bytes[P - 1] = D;
-    CHECK(accept_from(&rights, &desks, &classes).refusal == 3);
+    CHECK(accept_from(&rights, &desks, &classes).refusal == DW_REFUSAL_DESK);
     desks.bytes[P - 1] = 0;
     classes.bytes[F - 1] = T;
-    CHECK(accept_from(&rights, &desks, &classes).refusal == 4);
+    CHECK(accept_from(&rights, &desks, &classes).refusal == DW_REFUSAL_CLASS);
 
     CHECK(has_guard(rights.before) && has_guard(rights.bytes + D * T));
     CHECK(has_guard(desks.before) && has_guard(desks.bytes + P));
@@ -492,10 +492,10 @@ static void matches_lengths(void)
     static const uint8_t none[DW_RIGHTS];
 
     CHECK(dw_accept(D, T, P, F, none, D * T, none, P, none, F).refusal == 0);
-    CHECK(dw_accept(D, T, P, F, none, D * T + 1, none, P, none, F).refusal == 10);
-    CHECK(dw_accept(D, T, P, F, none, D * T, none, P - 1, none, F).refusal == 10);
-    CHECK(dw_accept(D, T, P, F, none, D * T, none, P, none, F + 1).refusal == 10);
-    CHECK(dw_accept(DW_DESKS + 1, T, P, F, none, D * T, none, P, none, F).refusal == 1);
+    CHECK(dw_accept(D, T, P, F, none, D * T + 1, none, P, none, F).refusal == DW_REFUSAL_LENGTH);
+    CHECK(dw_accept(D, T, P, F, none, D * T, none, P - 1, none, F).refusal == DW_REFUSAL_LENGTH);
+    CHECK(dw_accept(D, T, P, F, none, D * T, none, P, none, F + 1).refusal == DW_REFUSAL_LENGTH);
+    CHECK(dw_accept(DW_DESKS + 1, T, P, F, none, D * T, none, P, none, F).refusal == DW_REFUSAL_COUNT);
 }
 
 static void gives_stores(void)
@@ -507,7 +507,7 @@ static void gives_stores(void)
     CHECK(given.refusal == 0 && same_store(&given.store, &blank));
     s.desks = 0;
     given = dw_fresh(s);
-    CHECK(given.refusal == 15);
+    CHECK(given.refusal == DW_REFUSAL_SETUP);
     for (uint32_t f = 0; f < DW_FILES; f++) {
         CHECK(given.store.holders[f] == 0 && given.store.figures[f] == 0);
         for (uint32_t p = 0; p < DW_PROCESSES; p++)
@@ -611,16 +611,16 @@ static void refused_calls_change_nothing(void)
 
     for (uint32_t f = 0; f < F; f++)
         m.figures[f] = 0x01010101u * (f + 1);
-    call_gives(s, m, call_of(0, P, F, 1), DW_REFUSED, 5, &m);
-    call_gives(s, m, call_of(DW_READ, P, F, 1), DW_REFUSED, 6, &m);
-    call_gives(s, m, call_of(DW_READ, P - 1, F, 1), DW_REFUSED, 7, &m);
-    call_gives(s, m, call_of(DW_COPY, P - 1, F - 1, F), DW_REFUSED, 7, &m);
-    call_gives(s, m, call_of(DW_READ, P - 1, F - 1, 1), DW_REFUSED, 8, &m);
-    call_gives(s, m, call_of(DW_COPY, P - 1, F - 1, F - 1), DW_REFUSED, 9, &m);
+    call_gives(s, m, call_of(0, P, F, 1), DW_REFUSED, DW_REFUSAL_OPERATION, &m);
+    call_gives(s, m, call_of(DW_READ, P, F, 1), DW_REFUSED, DW_REFUSAL_PROCESS, &m);
+    call_gives(s, m, call_of(DW_READ, P - 1, F, 1), DW_REFUSED, DW_REFUSAL_FILE, &m);
+    call_gives(s, m, call_of(DW_COPY, P - 1, F - 1, F), DW_REFUSED, DW_REFUSAL_FILE, &m);
+    call_gives(s, m, call_of(DW_READ, P - 1, F - 1, 1), DW_REFUSED, DW_REFUSAL_EXTRA, &m);
+    call_gives(s, m, call_of(DW_COPY, P - 1, F - 1, F - 1), DW_REFUSED, DW_REFUSAL_COPY, &m);
     m.figures[F] = 1;
-    call_gives(s, m, call_of(0, P, F, 1), DW_REFUSED, 16, &m);
+    call_gives(s, m, call_of(0, P, F, 1), DW_REFUSED, DW_REFUSAL_STORE, &m);
     s.processes = 0;
-    call_gives(s, m, call_of(0, P, F, 1), DW_REFUSED, 15, &m);
+    call_gives(s, m, call_of(0, P, F, 1), DW_REFUSED, DW_REFUSAL_SETUP, &m);
 }
 
 /* ---- Lists. */
@@ -681,7 +681,7 @@ static void list_is_its_calls(dw_setup s, dw_store m, uint32_t count, uint32_t s
 
     make_room();
     listed = dw_run(s, m, calls, len, answers, written + spare);
-    CHECK(is_answer(listed.answer, 0, count));
+    CHECK(is_answer(listed.answer, DW_DONE, count));
     for (uint32_t i = 0; i < count; i++) {
         const uint32_t *n = calls + i * DW_CALL_WIDTH;
         dw_called called = dw_call(s, m, n[0], n[1], n[2], n[3]);
@@ -783,12 +783,12 @@ static void routes_keep_to_their_room(void)
     route_is(s, 0, 2, DW_ROUTE_NUMBERS, DW_ROUTE, DW_ROUTE_CALLS(2), two_links, LEN(two_links));
     route_is(s, 0, 1, DW_ROUTE_NUMBERS + 5, DW_ROUTE, DW_ROUTE_CALLS(1), one_link, LEN(one_link));
     route_is(s, 2, 0, DW_ROUTE_NUMBERS, DW_NO_ROUTE, 0, one_link, 0);
-    route_is(s, 1, 1, 0, DW_REFUSED, 13, one_link, 0);
-    route_is(s, 3, 3, 0, DW_REFUSED, 12, one_link, 0);
-    route_is(s, 0, 0xFFFFFFFFu, 0, DW_REFUSED, 12, one_link, 0);
-    route_is(s, 0, 2, DW_ROUTE_NUMBERS - 1, DW_REFUSED, 11, one_link, 0);
+    route_is(s, 1, 1, 0, DW_REFUSED, DW_REFUSAL_SAME_DESK, one_link, 0);
+    route_is(s, 3, 3, 0, DW_REFUSED, DW_REFUSAL_ROUTE_DESK, one_link, 0);
+    route_is(s, 0, 0xFFFFFFFFu, 0, DW_REFUSED, DW_REFUSAL_ROUTE_DESK, one_link, 0);
+    route_is(s, 0, 2, DW_ROUTE_NUMBERS - 1, DW_REFUSED, DW_REFUSAL_ROOM, one_link, 0);
     s.class_of[2] = 1;
-    route_is(s, 3, 3, 0, DW_REFUSED, 15, one_link, 0);
+    route_is(s, 3, 3, 0, DW_REFUSED, DW_REFUSAL_SETUP, one_link, 0);
 }
 
 /* ---- Texts. The trial setup and two calls, with a guard right past the last byte. */
@@ -844,11 +844,11 @@ static void setups_are_read(void)
     uint8_t *at = make_text(setup_lines, "");
 
     memset(&none, 0, sizeof none);
-    text_is(dw_read_alone(at, len_from(at)), 0, 0, 0, &s);
-    text_is(dw_read_alone(at, len_from(at) - 1), DW_REFUSED, 14, len_from(at) - BYTES(LAST_FILE), &none);
-    text_is(dw_read_alone(at, 0), DW_REFUSED, 14, 0, &none);
+    text_is(dw_read_alone(at, len_from(at)), DW_DONE, 0, 0, &s);
+    text_is(dw_read_alone(at, len_from(at) - 1), DW_REFUSED, DW_REFUSAL_LINE, len_from(at) - BYTES(LAST_FILE), &none);
+    text_is(dw_read_alone(at, 0), DW_REFUSED, DW_REFUSAL_LINE, 0, &none);
     at = make_text(setup_lines, CALLS_LINE);
-    text_is(dw_read_alone(at, len_from(at)), DW_REFUSED, 14, len_from(at) - BYTES(CALLS_LINE), &none);
+    text_is(dw_read_alone(at, len_from(at)), DW_REFUSED, DW_REFUSAL_LINE, len_from(at) - BYTES(CALLS_LINE), &none);
 }
 
 /* The calls go to the front of the room and no further; a refusal leaves it as it was. */
@@ -862,11 +862,11 @@ static void texts_keep_to_their_room(void)
 
     memset(&none, 0, sizeof none);
     make_room();
-    text_is(dw_read_with_calls(at, len_from(at) - 1, front, DW_CALL_NUMBERS), DW_REFUSED, 14,
+    text_is(dw_read_with_calls(at, len_from(at) - 1, front, DW_CALL_NUMBERS), DW_REFUSED, DW_REFUSAL_LINE,
             len_from(at) - BYTES(LAST_CALL), &none);
-    text_is(dw_read_with_calls(at, len_from(at), front + 1, DW_CALL_NUMBERS - 1), DW_REFUSED, 11, 0, &none);
+    text_is(dw_read_with_calls(at, len_from(at), front + 1, DW_CALL_NUMBERS - 1), DW_REFUSED, DW_REFUSAL_ROOM, 0, &none);
     room_is_untouched(0, CALLS_LEN);
-    text_is(dw_read_with_calls(at, len_from(at), front, DW_CALL_NUMBERS), 0, WRITTEN / DW_CALL_WIDTH, 0, &s);
+    text_is(dw_read_with_calls(at, len_from(at), front, DW_CALL_NUMBERS), DW_DONE, WRITTEN / DW_CALL_WIDTH, 0, &s);
     CHECK(memcmp(front, expected, sizeof expected) == 0);
     room_is_untouched(0, SPARE);
     room_is_untouched(SPARE + WRITTEN, CALLS_LEN);

@@ -1,75 +1,91 @@
-// Four numbers as a call, or their refusal.
+// A call's numbers as a call, or their refusal.
+use rules::CODE_OF_CLOSE;
+use rules::CODE_OF_COPY;
+use rules::CODE_OF_LOCK;
+use rules::CODE_OF_OPEN;
+use rules::CODE_OF_TESTLOCK;
+use rules::CODE_OF_UNLOCK;
+use rules::CODE_OF_WRITE;
+use rules::COPY_ONTO_ITSELF;
 use rules::Call;
 use rules::Decoded;
+use rules::EXTRA_GIVEN;
+use rules::FIRST_CODE;
+use rules::LAST_CODE;
+use rules::NO_FILE;
+use rules::NO_OPERATION;
+use rules::NO_PROCESS;
+use rules::Numbers;
 use rules::Setup;
 ghost use mathlib.Core.Path.{_≡_};
-ghost use Rattle.rules.specs.Calls.{numbers, callOf};
+ghost use Rattle.rules.specs.Calls.{callOf};
 ghost use Rattle.rules.specs.Refusals.{numbersRefusal};
 ghost use Rattle.rules.specs.Entries.{decoded};
 
-// The codes of the calls run from 1 to this.
-const CODES: u32 = 8;
-
-const WRITE: u32 = 2;
-
-const COPY: u32 = 8;
-
-// The refusal of four numbers, or 0: the order is 5, 6, 7, 8, 9.
-fn numbers_refusal(setup: Setup, op: u32, p: u32, f: u32, x: u32) -> u32
-    ensures { λ r. ⌜ r ≡ numbersRefusal setup (numbers op p f x) ⌝ }
+// The refusal of a call's numbers, or 0: the order is 5, 6, 7, 8, 9.
+fn numbers_refusal(setup: Setup, n: Numbers) -> u32
+    ensures { λ r. ⌜ r ≡ numbersRefusal setup n ⌝ }
 {
-    if op < 1 {
-        return 5;
+    let op = n.operation;
+    let p = n.process;
+    let f = n.file;
+    let x = n.extra;
+    if op < FIRST_CODE {
+        return NO_OPERATION;
     }
-    if CODES < op {
-        return 5;
+    if LAST_CODE < op {
+        return NO_OPERATION;
     }
     if setup.processes <= p {
-        return 6;
+        return NO_PROCESS;
     }
     if setup.files <= f {
-        return 7;
+        return NO_FILE;
     }
-    if op == COPY {
+    if op == CODE_OF_COPY {
         if setup.files <= x {
-            return 7;
+            return NO_FILE;
         }
         if x == f {
-            return 9;
+            return COPY_ONTO_ITSELF;
         }
         return 0;
     }
-    if op == WRITE {
+    if op == CODE_OF_WRITE {
         return 0;
     }
     if x != 0 {
-        return 8;
+        return EXTRA_GIVEN;
     }
     0
 }
 
-// The call of a code from 1 to CODES.
-fn call_of(op: u32, p: u32, f: u32, x: u32) -> Call
-    ensures { λ r. ⌜ r ≡ callOf (numbers op p f x) ⌝ }
+// The call of a code from the first to the last.
+fn call_of(n: Numbers) -> Call
+    ensures { λ r. ⌜ r ≡ callOf n ⌝ }
 {
+    let op = n.operation;
+    let p = n.process;
+    let f = n.file;
+    let x = n.extra;
     match op {
-        2 => Call::Write(p, f, x),
-        3 => Call::Lock(p, f),
-        4 => Call::Unlock(p, f),
-        5 => Call::Open(p, f),
-        6 => Call::Close(p, f),
-        7 => Call::Testlock(p, f),
-        8 => Call::Copy(p, f, x),
+        CODE_OF_WRITE => Call::Write(p, f, x),
+        CODE_OF_LOCK => Call::Lock(p, f),
+        CODE_OF_UNLOCK => Call::Unlock(p, f),
+        CODE_OF_OPEN => Call::Open(p, f),
+        CODE_OF_CLOSE => Call::Close(p, f),
+        CODE_OF_TESTLOCK => Call::Testlock(p, f),
+        CODE_OF_COPY => Call::Copy(p, f, x),
         _ => Call::Read(p, f),
     }
 }
 
-pub fn decode(setup: Setup, op: u32, p: u32, f: u32, x: u32) -> Decoded
-    ensures { λ r. ⌜ r ≡ decoded setup (numbers op p f x) ⌝ }
+pub fn decode(setup: Setup, n: Numbers) -> Decoded
+    ensures { λ r. ⌜ r ≡ decoded setup n ⌝ }
 {
-    let refusal = numbers_refusal(setup, op, p, f, x);
+    let refusal = numbers_refusal(setup, n);
     if refusal != 0 {
         return Decoded::Not(refusal);
     }
-    Decoded::Is(call_of(op, p, f, x))
+    Decoded::Is(call_of(n))
 }

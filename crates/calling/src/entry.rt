@@ -1,4 +1,6 @@
 // The entry: one call on a setup and a store that are judged first.
+use crate::Looks;
+use crate::Meeting;
 use crate::decoding::decode;
 use crate::stepping::step;
 use judging::fitting::judge;
@@ -10,16 +12,16 @@ use rules::Call;
 use rules::Called;
 use rules::Content;
 use rules::Decoded;
-use rules::Looks;
+use rules::Numbers;
 use rules::PROCESSES;
 use rules::Setup;
-use rules::Sheet;
 use rules::Store;
 ghost use mathlib.Core.Path.{_≡_};
 ghost use Prim.Native.Nat.{_<_};
 ghost use Rattle.rules.specs.Sizes.{mostProcesses, mostFiles};
 ghost use Rattle.rules.specs.Stores.{isOpen};
-ghost use Rattle.rules.specs.Calls.{numbers, processOf, fileOf, changeable, answerTo, nextStore};
+ghost use Rattle.rules.specs.Calls.{answerTo, nextStore};
+ghost use Rattle.rules.specs.Parts.{processOf, fileOf, changeable};
 ghost use Rattle.rules.specs.Answers.{numbersOf};
 ghost use Rattle.calling.specs.Looking.{rightIn, looksOn};
 ghost use Rattle.rules.specs.Entries.{called};
@@ -76,10 +78,10 @@ fn is_open(mark: u8) -> bool
     mark == 1
 }
 
-pub fn sheet_of(holder: u32, content: Content, mark: u8) -> Sheet
+pub fn meeting_of(holder: u32, content: Content, mark: u8) -> Meeting
     ensures { λ r. ⌜ r ≡ record { holder = holder; content = content; mark = mark } ⌝ }
 {
-    Sheet {
+    Meeting {
         holder,
         content,
         mark,
@@ -111,8 +113,8 @@ pub fn look_on<'a>(
     desk: &'a [u8],
     class: &'a [u8],
     call: Call,
-    source: Sheet,
-    target: Sheet,
+    source: Meeting,
+    target: Meeting,
 ) -> Looks
     ensures { λ r. ⌜ r ≡ looksOn (now (rights .entry)) (now (desk .entry)) (now (class .entry)) call source target ⌝ }
 {
@@ -135,7 +137,8 @@ pub fn look_on<'a>(
     }
 }
 
-// A call that exists, on a setup and a store that were judged. It changes one local: each call writes one sheet of it.
+// A call that exists, on a setup and a store that were judged. It changes one local, in one place. What looks, steps and puts
+// back stands in lists::running::run_all too: one function for both was slower (docs/DECISIONS.md).
 fn run_one(setup: Setup, store: Store, call: Call) -> Called
     requires { ⌜ (processOf call < mostProcesses) × (fileOf call < mostFiles) × (changeable call < mostFiles) ⌝ }
     ensures { λ r. ⌜ r ≡ record { answer = answerTo setup store call; store = nextStore setup store call } ⌝ }
@@ -146,16 +149,16 @@ fn run_one(setup: Setup, store: Store, call: Call) -> Called
     let x = changeable(call) as usize;
     let at_f = f * PROCESSES + p;
     let at_x = x * PROCESSES + p;
-    let from = sheet_of(next.holders[f], next.contents[f], next.marks[at_f]);
-    let onto = sheet_of(next.holders[x], next.contents[x], next.marks[at_x]);
+    let from = meeting_of(next.holders[f], next.contents[f], next.marks[at_f]);
+    let onto = meeting_of(next.holders[x], next.contents[x], next.marks[at_x]);
     let look = look_on(&setup.rights, &setup.desk, &setup.class, call, from, onto);
     let turn = step(call, look);
     let answer = turn.answer;
-    let sheet = turn.sheet;
-    let content = sheet.content;
-    next.holders[x] = sheet.holder;
+    let meeting = turn.meeting;
+    let content = meeting.content;
+    next.holders[x] = meeting.holder;
     next.contents[x] = content;
-    next.marks[at_x] = sheet.mark;
+    next.marks[at_x] = meeting.mark;
     Called {
         answer,
         store: next,
@@ -163,16 +166,16 @@ fn run_one(setup: Setup, store: Store, call: Call) -> Called
 }
 
 // Entry: one call. The setup and the store are judged first; a refused call hands the store back as it was.
-pub fn call(setup: Setup, store: Store, op: u32, p: u32, f: u32, x: u32) -> Called
-    ensures { λ r. ⌜ r ≡ called setup store (numbers op p f x) ⌝ }
-    ensures numbers { λ r. ⌜ numbersOf (r .answer) ≡ numbersOf (called setup store (numbers op p f x) .answer) ⌝ }
+pub fn call(setup: Setup, store: Store, n: Numbers) -> Called
+    ensures { λ r. ⌜ r ≡ called setup store n ⌝ }
+    ensures numbers { λ r. ⌜ numbersOf (r .answer) ≡ numbersOf (called setup store n .answer) ⌝ }
 {
     let refusal = judge(setup, store);
     if refusal != 0 {
         let answer = Answer::Refused(refusal);
         return Called { answer, store };
     }
-    let decoded = decode(setup, op, p, f, x);
+    let decoded = decode(setup, n);
     match decoded {
         Decoded::Not(number) => {
             let answer = Answer::Refused(number);

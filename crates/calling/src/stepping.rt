@@ -1,15 +1,17 @@
 // The rule of each code, and the step that matches the call.
+use crate::Looks;
+use crate::Meeting;
+use crate::Turn;
 use rules::Answer;
 use rules::Call;
 use rules::Content;
-use rules::Looks;
-use rules::Sheet;
-use rules::Turn;
 ghost use mathlib.Core.Path.{_≡_};
 ghost use Prim.Native.Nat.{_<_};
 ghost use Rattle.rules.specs.Sizes.{mostProcesses};
 ghost use Rattle.rules.specs.Stores.{unlocked, lockedBy};
-ghost use Rattle.rules.specs.Calls.{processOf, readOf, writtenTo, copiedTo, yesOrNo, freeFor, withHolder, withContent, withMark, turnOf, quiet};
+ghost use Rattle.rules.specs.Calls.{readOf, writtenTo, copiedTo, yesOrNo, freeFor};
+ghost use Rattle.rules.specs.Parts.{processOf};
+ghost use Rattle.calling.specs.Turns.{withHolder, withContent, withMark, turnOf, quiet};
 
 // What is asked of a file's holder.
 
@@ -33,28 +35,28 @@ fn free_for(holder: u32, p: u32) -> bool
     unlocked(holder) | locked_by(holder, p)
 }
 
-// A sheet with one thing changed.
+// A meeting with one thing changed.
 
-fn with_holder(sheet: Sheet, holder: u32) -> Sheet
-    ensures { λ r. ⌜ r ≡ withHolder sheet holder ⌝ }
+fn with_holder(meeting: Meeting, holder: u32) -> Meeting
+    ensures { λ r. ⌜ r ≡ withHolder meeting holder ⌝ }
 {
-    let mut next = sheet;
+    let mut next = meeting;
     next.holder = holder;
     next
 }
 
-fn with_content(sheet: Sheet, content: Content) -> Sheet
-    ensures { λ r. ⌜ r ≡ withContent sheet content ⌝ }
+fn with_content(meeting: Meeting, content: Content) -> Meeting
+    ensures { λ r. ⌜ r ≡ withContent meeting content ⌝ }
 {
-    let mut next = sheet;
+    let mut next = meeting;
     next.content = content;
     next
 }
 
-fn with_mark(sheet: Sheet, mark: u8) -> Sheet
-    ensures { λ r. ⌜ r ≡ withMark sheet mark ⌝ }
+fn with_mark(meeting: Meeting, mark: u8) -> Meeting
+    ensures { λ r. ⌜ r ≡ withMark meeting mark ⌝ }
 {
-    let mut next = sheet;
+    let mut next = meeting;
     next.mark = mark;
     next
 }
@@ -88,12 +90,12 @@ fn yes_or_no(held: bool) -> Answer
 }
 
 // A turn that answers nothing.
-fn quiet(sheet: Sheet) -> Turn
-    ensures { λ r. ⌜ r ≡ quiet sheet ⌝ }
+fn quiet(meeting: Meeting) -> Turn
+    ensures { λ r. ⌜ r ≡ quiet meeting ⌝ }
 {
     Turn {
         answer: Answer::Nothing,
-        sheet,
+        meeting,
     }
 }
 
@@ -108,7 +110,7 @@ fn read(look: Looks, p: u32, f: u32) -> Turn
         let answer = read_of(look.content);
         Turn {
             answer,
-            sheet: target,
+            meeting: target,
         }
     } else {
         quiet(target)
@@ -184,7 +186,7 @@ fn testlock(look: Looks, p: u32, f: u32) -> Turn
         let answer = yes_or_no(locked_by(look.holder, p));
         Turn {
             answer,
-            sheet: target,
+            meeting: target,
         }
     } else {
         quiet(target)
@@ -203,7 +205,7 @@ fn copy(look: Looks, p: u32, f: u32, x: u32) -> Turn
     }
 }
 
-// One call on what it looks at: its answer, and the next sheet of the file that it can change.
+// One call on what it looks at: its answer, and what its process meets next of the file that it can change.
 pub fn step(call: Call, look: Looks) -> Turn
     requires { ⌜ processOf call < mostProcesses ⌝ }
     ensures { λ r. ⌜ r ≡ turnOf call look ⌝ }

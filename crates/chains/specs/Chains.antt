@@ -1,4 +1,5 @@
--- 01, "The route report": chains over any links from desk to desk, how few links reach a desk, and the chain that the report takes.
+-- 01, "The route report": a desk's lowest process and a link's lowest file; over any links chains, how few links reach a desk, and the
+-- chain that the report takes.
 use Prim.Native.Nat.{ℕ, zero, suc, _-_, _≤_}
 use mathlib.Core.Path.{_≡_}
 use mathlib.Core.Bool.{Bool, true, false, _&&_, cond}
@@ -23,7 +24,8 @@ processAt s d = lowest (s .processes) (λ p. eqb (deskOf s p) d)
 abbrev pub fileFor : Setup → ℕ → ℕ → ℕ
 fileFor s d e = lowest (s .files) (serves s d e)
 
--- links between desks: whether one runs from the first to the second; 01's links of a setup are `linked` of it
+-- links between desks: whether one runs from the first to the second. 01's links of a setup are `linked` of it. What is said below of
+-- the fewest links and of the chain taken is so of links that run among numbers below mostDesks, as those do (`linked-among-most`)
 abbrev pub Links : Type 0
 Links = ℕ → ℕ → Bool
 
@@ -32,7 +34,7 @@ unfoldable pub isChain : Links → ℕ → ℕ → List ℕ → Bool
 isChain links a b [] = eqb a b
 isChain links a b (d ∷ rest) = links a d && isChain links d b rest
 
--- the desk at place i of a chain from a, which stands at place 0
+-- the desk at place i of a chain from a, which stands at place 0; for laws
 abbrev pub deskAt : ℕ → List ℕ → ℕ → ℕ
 deskAt a xs i = getD (a ∷ xs) i 0
 

@@ -6,30 +6,18 @@ use mathlib.Core.Bool.{true}
 use mathlib.Core.Logic.{_≢_}
 use native.Mathlib.Omega.{arith}
 use borrow.Author.Tests.{eq-eqb}
-use lib.ListN.{set}
-use lib.Seq.{set-getD}
 use Rattle.rules.specs.Setups.{mayRead, mayWrite}
-use Rattle.rules.specs.Stores.{holderOf, contentOf, markAt, markOf}
-use Rattle.rules.specs.Calls.{Numbers, readOf, writtenTo, copiedTo, callOf, goesThrough, effect, says, answerTo, nextStore}
+use Rattle.rules.specs.Stores.{holderOf, contentOf, markOf, putHolder, putContent, putMark}
+use Rattle.rules.specs.Calls.{readOf, writtenTo, copiedTo, callOf, goesThrough, effect, says, answerTo, nextStore}
 use Rattle.rules.specs.Entries.{ran}
+use Rattle.rules.specs.declared.Numbers.{Numbers}
 use Rattle.rules.specs.declared.Setup.{Setup}
-use Rattle.rules.specs.declared.Content.{Content}
 use Rattle.rules.specs.declared.Store.{Store}
 use Rattle.rules.specs.declared.Call.the-variants.{Open}
 use Rattle.rules.specs.declared.Answer.the-variants.{Nothing}
 use Rattle.rules.proofs.Calls.{silent-answers-nothing}
 use Rattle.rules.proofs.Refusals.{Sound, numbersRefusal-iff}
 use Rattle.demand.specs.Routes.{readCall, writeCall, lockCall, unlockCall, openCall, copyCall}
-
--- the store with another holder of file f, with another content of it, and with it open for process p
-abbrev pub putHolder : Store → ℕ → ℕ → Store
-putHolder m f holder = record { holders = set (m .holders) f holder; contents = m .contents; marks = m .marks }
-
-abbrev pub putContent : Store → ℕ → Content → Store
-putContent m f content = record { holders = m .holders; contents = set (m .contents) f content; marks = m .marks }
-
-abbrev pub putOpen : Store → ℕ → ℕ → Store
-putOpen m f p = record { holders = m .holders; contents = m .contents; marks = set (m .marks) (markAt f p) 1 }
 
 module _ (s : Setup) (m : Store) where
   -- sound numbers are run
@@ -40,20 +28,20 @@ module _ (s : Setup) (m : Store) where
   module _ (p f : ℕ) (at : p < s .processes) (on : f < s .files) where
     pub lock-goes : mayWrite s p f ≡ true → holderOf m f ≡ 0 → ran s m (lockCall p f) .store ≡ putHolder m f (p + 1)
     unfolding callOf nextStore goesThrough effect
-    lock-goes w h = simp (ran-sound (lockCall p f) (omega arith), w, h, set-getD)
+    lock-goes w h = simp (ran-sound (lockCall p f) (omega arith), w, h)
 
     pub write-goes : (x : ℕ) → mayWrite s p f ≡ true → holderOf m f ≡ p + 1
         → ran s m (writeCall p f x) .store ≡ putContent m f (writtenTo (contentOf m f) x)
     unfolding callOf nextStore goesThrough effect
-    write-goes x w h = simp (ran-sound (writeCall p f x) (omega arith), w, eq-eqb (holderOf m f) (p + 1) h, set-getD)
+    write-goes x w h = simp (ran-sound (writeCall p f x) (omega arith), w, eq-eqb (holderOf m f) (p + 1) h)
 
     pub unlock-goes : mayWrite s p f ≡ true → holderOf m f ≡ p + 1 → ran s m (unlockCall p f) .store ≡ putHolder m f 0
     unfolding callOf nextStore goesThrough effect
-    unlock-goes w h = simp (ran-sound (unlockCall p f) (omega arith), w, eq-eqb (holderOf m f) (p + 1) h, set-getD)
+    unlock-goes w h = simp (ran-sound (unlockCall p f) (omega arith), w, eq-eqb (holderOf m f) (p + 1) h)
 
-    pub open-goes : mayRead s p f ≡ true → holderOf m f ≡ 0 → ran s m (openCall p f) .store ≡ putOpen m f p
+    pub open-goes : mayRead s p f ≡ true → holderOf m f ≡ 0 → ran s m (openCall p f) .store ≡ putMark m f p 1
     unfolding callOf nextStore goesThrough effect
-    open-goes r h = simp (ran-sound (openCall p f) (omega arith), r, eq-eqb (holderOf m f) 0 h, set-getD)
+    open-goes r h = simp (ran-sound (openCall p f) (omega arith), r, eq-eqb (holderOf m f) 0 h)
 
     pub open-answers : ran s m (openCall p f) .answer ≡ Nothing
     unfolding callOf
@@ -66,4 +54,4 @@ module _ (s : Setup) (m : Store) where
     pub copy-goes : (g : ℕ) → g < s .files → g ≢ f → mayRead s p f ≡ true → mayWrite s p g ≡ true → markOf m f p ≡ 1 → holderOf m f ≡ 0 → holderOf m g ≡ p + 1
         → ran s m (copyCall p f g) .store ≡ putContent m g (copiedTo (contentOf m g) (contentOf m f))
     unfolding callOf nextStore goesThrough effect
-    copy-goes g to apart r w k h held = simp (ran-sound (copyCall p f g) (omega arith), r, w, k, h, eq-eqb (holderOf m g) (p + 1) held, set-getD)
+    copy-goes g to apart r w k h held = simp (ran-sound (copyCall p f g) (omega arith), r, w, k, h, eq-eqb (holderOf m g) (p + 1) held)

@@ -9,8 +9,9 @@ use native.Mathlib.Omega.{arith}
 use lib.ListN.{length}
 use Rattle.secrecy.specs.Sets.{Every}
 use Rattle.rules.specs.Setups.{accepted}
-use Rattle.rules.specs.Calls.{Numbers, Is32}
+use Rattle.rules.specs.Calls.{Is32}
 use Rattle.rules.specs.Links.{linked}
+use Rattle.rules.specs.declared.Numbers.{Numbers}
 use Rattle.rules.specs.declared.Setup.{Setup}
 use Rattle.rules.proofs.Setups.{accepted-sizes}
 use Rattle.chains.specs.Chains.{processAt, fileFor, isChain, Fewest, mostLinks}

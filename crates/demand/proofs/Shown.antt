@@ -12,11 +12,12 @@ use Rattle.secrecy.specs.Machine.{isOf, answersWhere, answersTo}
 use Rattle.secrecy.specs.Strike.{strike}
 use Rattle.rules.specs.Setups.{accepted}
 use Rattle.rules.specs.Stores.{contentOf, freshStore}
-use Rattle.rules.specs.Calls.{numbers, readOf, writtenTo}
+use Rattle.rules.specs.Calls.{numbers, readOf, writtenTo, copiedTo}
 use Rattle.rules.specs.Links.{deskOfCall, linked}
 use Rattle.rules.specs.declared.Setup.{Setup}
 use Rattle.rules.specs.declared.Store.{Store}
 use Rattle.rules.specs.declared.Answer.the-variants.{Nothing}
+use Rattle.rules.proofs.Setups.{accepted-sizes}
 use Rattle.views.specs.Machine.{machine}
 use Rattle.chains.specs.Chains.{processAt, fileFor, isChain, deskAt, Fewest}
 use Rattle.chains.proofs.Chains.{chain-none, chain-first}
@@ -56,11 +57,12 @@ module _ (s : Setup) (e : accepted s ≡ true) (b : ℕ) where
       let k = link-acts s d u (chain-first (linked s) d b u rest .0 (onto .chain) .0) in
       let f = fileFor s c d in
       let g = fileFor s d u in
+      let copy = copiedTo (contentOf m g) (contentOf m f) in
       simp (
         others-call s d (k .from) (fewest-apart onto),
         handed s e at c d u j k (λ q. files-used-apart s h 0 1 (omega arith) (omega arith) (sym q)),
-        onward-heard rest d u onto (content-stage (open-stage at f (processAt s d)) g (contentOf m f)),
-        put-content s e at g (contentOf m f) (k .by .exists),
+        onward-heard rest d u onto (content-stage (open-stage at f (processAt s d)) g copy),
+        put-content s e at g copy (k .by .exists),
       )
 
 module _ (s : Setup) (a b : ℕ) where
@@ -103,5 +105,10 @@ route-shows s e {a} {b} {xs = d ∷ rest} other h =
             onward-heard s e b rest a d h (content-stage fresh-stage f one),
             put-content s e fresh-stage f one (k .by .exists),
           );
-      without-them = simp (route-without s a b d rest h, onward-heard s e b rest a d h fresh-stage, fresh-content f);
+      without-them =
+          simp (
+            route-without s a b d rest h,
+            onward-heard s e b rest a d h fresh-stage,
+            fresh-content f (omega (arith, accepted-sizes s e .of-files .high, k .by .exists)),
+          );
     }

@@ -5,12 +5,12 @@ use mathlib.Core.Path.{_≡_, ap, sym, _∙_}
 use mathlib.Core.Bool.{true, and-eq-true-iff}
 use mathlib.Core.Logic.{_≢_}
 use native.Mathlib.Omega.{arith}
-use lib.ListN.{length, set, length-set, length-replicate}
+use lib.ListN.{length, set, length-set, length-replicate, getD-replicate}
 use lib.Seq.{set-getD, set-set, getD-set-same, getD-set-other}
 use Rattle.rules.specs.Sizes.{mostFiles, mostMarks}
 use Rattle.rules.specs.Setups.{hasR, hasW, classOf, rightOf, mayRead, mayWrite, accepted}
-use Rattle.rules.specs.Stores.{blankContent, holderOf, contentOf, markAt, markOf, freshStore}
-use Rattle.rules.specs.Calls.{readOf, writtenTo}
+use Rattle.rules.specs.Stores.{blankContent, pastContents, holderOf, contentOf, markAt, markOf, putHolder, putContent, putMark, freshStore}
+use Rattle.rules.specs.Calls.{readOf, writtenTo, copiedTo}
 use Rattle.rules.specs.Entries.{ran}
 use Rattle.rules.specs.declared.Setup.{Setup}
 use Rattle.rules.specs.declared.Content.{Content}
@@ -20,7 +20,7 @@ use Rattle.rules.proofs.Setups.{accepted-sizes}
 use Rattle.chains.specs.Chains.{processAt, fileFor}
 use Rattle.chains.proofs.Acts.{LinkActs}
 use Rattle.demand.specs.Routes.{readCall, writeCall, lockCall, unlockCall, openCall, copyCall}
-use Rattle.demand.proofs.Goes.{putHolder, putContent, putOpen, lock-goes, write-goes, unlock-goes, open-goes, read-answers, copy-goes}
+use Rattle.demand.proofs.Goes.{lock-goes, write-goes, unlock-goes, open-goes, read-answers, copy-goes}
 
 -- a store between two desks: every file is unlocked, and the lists are as long as the arrays that they stand for
 pub record Stage (m : Store) : Type 0 where
@@ -39,9 +39,9 @@ fresh-stage =
       marks = length-replicate {A = ℕ} mostMarks 0;
     }
 
-pub fresh-content : (f : ℕ) → contentOf freshStore f ≡ blankContent
+pub fresh-content : (f : ℕ) → f < mostFiles → contentOf freshStore f ≡ blankContent
 unfolding freshStore
-fresh-content f = getD-alike mostFiles f blankContent
+fresh-content f h = getD-replicate mostFiles f blankContent pastContents h
 
 module _ {m : Store} (at : Stage m) where
   -- another content and one more open mark leave every file unlocked
@@ -49,7 +49,7 @@ module _ {m : Store} (at : Stage m) where
   content-stage f content =
       record { free = at .free; holders = at .holders; contents = length-set (m .contents) f content ∙ at .contents; marks = at .marks }
 
-  pub open-stage : (f p : ℕ) → Stage (putOpen m f p)
+  pub open-stage : (f p : ℕ) → Stage (putMark m f p 1)
   open-stage f p =
       record { free = at .free; holders = at .holders; contents = at .contents; marks = length-set (m .marks) (markAt f p) 1 ∙ at .marks }
 
@@ -75,9 +75,9 @@ module _ (s : Setup) (e : accepted s ≡ true) {m : Store} (at : Stage m) where
   put-holder f holder h = getD-set-same (m .holders) f holder 0 (omega (arith, accepted-sizes s e .of-files .high, at .holders))
 
   pub put-content : (f : ℕ) (content : Content) → f < s .files → contentOf (putContent m f content) f ≡ content
-  put-content f content h = getD-set-same (m .contents) f content blankContent (omega (arith, accepted-sizes s e .of-files .high, at .contents))
+  put-content f content h = getD-set-same (m .contents) f content pastContents (omega (arith, accepted-sizes s e .of-files .high, at .contents))
 
-  put-open : (f p : ℕ) → f < s .files → p < s .processes → markOf (putOpen m f p) f p ≡ 1
+  put-open : (f p : ℕ) → f < s .files → p < s .processes → markOf (putMark m f p 1) f p ≡ 1
   put-open f p h k =
       let sizes = accepted-sizes s e in
       getD-set-same (m .marks) (markAt f p) 1 0 (omega (arith, sizes .of-files .high, sizes .of-processes .high, at .marks))
@@ -103,12 +103,12 @@ module _ (s : Setup) (e : accepted s ≡ true) {m : Store} (at : Stage m) where
   pub handed : (c d u : ℕ) → LinkActs s c d → LinkActs s d u → fileFor s d u ≢ fileFor s c d
       → let p = processAt s d in let f = fileFor s c d in let g = fileFor s d u in
       ran s (ran s (ran s (ran s m (openCall p f) .store) (lockCall p g) .store) (copyCall p f g) .store) (unlockCall p g) .store
-      ≡ putContent (putOpen m f p) g (contentOf m f)
+      ≡ putContent (putMark m f p 1) g (copiedTo (contentOf m g) (contentOf m f))
   handed c d u j k apart =
       let p = processAt s d in
       let f = fileFor s c d in
       let g = fileFor s d u in
-      let opened = putOpen m f p in
+      let opened = putMark m f p 1 in
       let locked = putHolder opened g (p + 1) in
       let free : holderOf locked f ≡ 0 = getD-set-other (m .holders) g f (p + 1) 0 (λ q. apart (sym q)) ∙ at .free f in
       let held = put-holder g (p + 1) (k .by .exists) in
@@ -118,7 +118,7 @@ module _ (s : Setup) (e : accepted s ≡ true) {m : Store} (at : Stage m) where
         open-goes s m p f (k .from .exists) (j .by .exists) r (at .free f),
         lock-goes s opened p g (k .from .exists) (k .by .exists) w (at .free g),
         copy-goes s locked p f (k .from .exists) (j .by .exists) g (k .by .exists) apart r w (put-open f p (j .by .exists) (k .from .exists)) free held,
-        unlock-goes s (putContent locked g (contentOf m f)) p g (k .from .exists) (k .by .exists) w held,
+        unlock-goes s (putContent locked g (copiedTo (contentOf m g) (contentOf m f))) p g (k .from .exists) (k .by .exists) w held,
         lock-over at g (p + 1),
       )
 
@@ -132,5 +132,5 @@ module _ (s : Setup) (e : accepted s ≡ true) {m : Store} (at : Stage m) where
       let r = link-reads s c d k in
       rw (
         open-goes s m p f (k .to .exists) (k .by .exists) r (at .free f),
-        read-answers s (putOpen m f p) p f (k .to .exists) (k .by .exists) r (put-open f p (k .by .exists) (k .to .exists)) (at .free f),
+        read-answers s (putMark m f p 1) p f (k .to .exists) (k .by .exists) r (put-open f p (k .by .exists) (k .to .exists)) (at .free f),
       )

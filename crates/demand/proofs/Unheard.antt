@@ -13,8 +13,8 @@ use Rattle.secrecy.proofs.Closed.{desk-unheard}
 use Rattle.rules.specs.Sizes.{mostDesks}
 use Rattle.rules.specs.Setups.{accepted}
 use Rattle.rules.specs.Stores.{freshStore}
-use Rattle.rules.specs.Calls.{Numbers}
 use Rattle.rules.specs.Links.{deskOfCall, linked}
+use Rattle.rules.specs.declared.Numbers.{Numbers}
 use Rattle.rules.specs.declared.Setup.{Setup}
 use Rattle.rules.proofs.Lists.{by-test}
 use Rattle.views.specs.Machine.{machine, linkedTo}

@@ -6,7 +6,8 @@ use Rattle.secrecy.specs.Machine.{answersTo}
 use Rattle.secrecy.specs.Strike.{strikeDesk}
 use Rattle.secrecy.specs.Sets.{Every}
 use Rattle.rules.specs.Stores.{freshStore}
-use Rattle.rules.specs.Calls.{Numbers, Is32}
+use Rattle.rules.specs.Calls.{Is32}
+use Rattle.rules.specs.declared.Numbers.{Numbers}
 use Rattle.rules.specs.declared.Setup.{Setup}
 use Rattle.rules.specs.declared.Answer.{Answer}
 use Rattle.rules.specs.declared.Answer.the-variants.{Nothing, Figure}
@@ -24,7 +25,7 @@ without s a acts = strikeDesk (machine s) a acts
 abbrev pub Unheard : Setup → ℕ → ℕ → Type 0
 Unheard s a b = (acts : List Numbers) → Every Is32 acts → heard s b acts ≡ heard s b (without s a acts)
 
--- the list lets desk b hear desk a: its last answer is the figure 1, and the figure 0 without a's calls
+-- the list lets desk b hear desk a: b is answered nothing and then the figure 1, and nothing and then the figure 0 without a's calls
 pub record Shows (s : Setup) (a b : ℕ) (acts : List Numbers) : Type 0 where
   pub with-them : heard s b acts ≡ Nothing ∷ Figure 1 ∷ []
   pub without-them : heard s b (without s a acts) ≡ Nothing ∷ Figure 0 ∷ []

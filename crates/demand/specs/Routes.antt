@@ -1,7 +1,8 @@
 -- 01, "The route report": the list of calls that shows a route.
 use Prim.Native.Nat.{ℕ, _+_, _*_}
 use mathlib.Core.List.{List, [], _∷_, _++_}
-use Rattle.rules.specs.Calls.{Numbers, numbers, codeOfRead, codeOfWrite, codeOfLock, codeOfUnlock, codeOfOpen, codeOfCopy}
+use Rattle.rules.specs.Calls.{numbers, codeOfRead, codeOfWrite, codeOfLock, codeOfUnlock, codeOfOpen, codeOfCopy}
+use Rattle.rules.specs.declared.Numbers.{Numbers}
 use Rattle.rules.specs.declared.Setup.{Setup}
 use Rattle.chains.specs.Chains.{processAt, fileFor}
 

@@ -1,6 +1,7 @@
 // The entries over structs by value, for C: each is the proved entry of a crate below, under a name that C links.
 use crate::Numbered;
 use crate::Outcome;
+use crate::as_numbers;
 use crate::call_numbered;
 use judging::accepting::accept;
 use judging::fitting::fresh;
@@ -11,6 +12,10 @@ use routes::RouteAnswer;
 use routes::report::report;
 use rules::GivenSetup;
 use rules::GivenStore;
+use rules::KIND_DONE;
+use rules::KIND_NO_ROUTE;
+use rules::KIND_REFUSED;
+use rules::KIND_ROUTE;
 use rules::Setup;
 use rules::Store;
 ghost use mathlib.Core.Path.{_≡_};
@@ -20,7 +25,7 @@ ghost use Rattle.rules.specs.Answers.{kindOf, valueOf};
 ghost use Rattle.rules.specs.Refusals.{judgeRefusal};
 ghost use Rattle.rules.specs.Entries.{acceptance, freshness, called};
 ghost use lib.ListN.{length};
-ghost use Rattle.lists.specs.Lists.{listed, roomAfter, listNumbersOf};
+ghost use Rattle.lists.specs.Lists.{listed, answersAfter, listNumbersOf};
 ghost use Rattle.routes.specs.Reports.{routed, routeNumbersOf};
 ghost use Rattle.routes.specs.Reports as route;
 ghost use Rattle.routes.specs.Demand3.{Demand3};
@@ -70,8 +75,8 @@ fn list_numbers_of(answer: ListAnswer) -> Numbered
     ensures { λ r. ⌜ (r .kind ≡ listNumbersOf answer .0) × (r .value ≡ listNumbersOf answer .1) ⌝ }
 {
     match answer {
-        ListAnswer::Ran(value) => Numbered { kind: 0, value },
-        ListAnswer::Stopped(value) => Numbered { kind: 4, value },
+        ListAnswer::Ran(calls) => as_numbers(KIND_DONE, calls),
+        ListAnswer::Stopped(refusal) => as_numbers(KIND_REFUSED, refusal),
     }
 }
 
@@ -80,7 +85,7 @@ fn list_numbers_of(answer: ListAnswer) -> Numbered
 pub extern "C" fn dw_run(setup: Setup, store: Store, calls: &[u32], answers: &mut [u32]) -> Outcome
     ensures { λ r. let l = listed setup store (now (calls .entry)) (now (answers .entry)) in
         ⌜ (r .numbered .kind ≡ listNumbersOf (l .answer) .0) × (r .numbered .value ≡ listNumbersOf (l .answer) .1) × (r .store ≡ l .store) ⌝ }
-    ensures room { λ _. ⌜ now (answers .exit) ≡ roomAfter setup store (now (calls .entry)) (now (answers .entry)) ⌝ }
+    ensures room { λ _. ⌜ now (answers .exit) ≡ answersAfter setup store (now (calls .entry)) (now (answers .entry)) ⌝ }
 {
     let outcome = run(setup, store, calls, answers);
     let answer = outcome.answer;
@@ -96,9 +101,9 @@ fn route_numbers_of(answer: RouteAnswer) -> Numbered
     ensures { λ r. ⌜ (r .kind ≡ routeNumbersOf answer .0) × (r .value ≡ routeNumbersOf answer .1) ⌝ }
 {
     match answer {
-        RouteAnswer::NoRoute => Numbered { kind: 0, value: 0 },
-        RouteAnswer::Route(value) => Numbered { kind: 1, value },
-        RouteAnswer::Refused(value) => Numbered { kind: 4, value },
+        RouteAnswer::NoRoute => as_numbers(KIND_NO_ROUTE, 0),
+        RouteAnswer::Route(calls) => as_numbers(KIND_ROUTE, calls),
+        RouteAnswer::Refused(refusal) => as_numbers(KIND_REFUSED, refusal),
     }
 }
 

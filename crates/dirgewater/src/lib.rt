@@ -5,6 +5,12 @@ pub mod texts;
 
 use calling::entry::call;
 use rules::Answer;
+use rules::KIND_FIGURE;
+use rules::KIND_NO;
+use rules::KIND_NOTHING;
+use rules::KIND_REFUSED;
+use rules::KIND_YES;
+use rules::Numbers;
 use rules::Setup;
 use rules::Store;
 ghost use mathlib.Core.Path.{_≡_};
@@ -26,15 +32,21 @@ pub struct Outcome {
     pub store: Store,
 }
 
+pub fn as_numbers(kind: u32, value: u32) -> Numbered
+    ensures { λ r. ⌜ (r .kind ≡ kind) × (r .value ≡ value) ⌝ }
+{
+    Numbered { kind, value }
+}
+
 pub fn numbers_of(answer: Answer) -> Numbered
     ensures { λ r. ⌜ (r .kind ≡ kindOf answer) × (r .value ≡ valueOf answer) ⌝ }
 {
     match answer {
-        Answer::Nothing => Numbered { kind: 0, value: 0 },
-        Answer::Figure(value) => Numbered { kind: 1, value },
-        Answer::Yes => Numbered { kind: 2, value: 0 },
-        Answer::No => Numbered { kind: 3, value: 0 },
-        Answer::Refused(value) => Numbered { kind: 4, value },
+        Answer::Nothing => as_numbers(KIND_NOTHING, 0),
+        Answer::Figure(figure) => as_numbers(KIND_FIGURE, figure),
+        Answer::Yes => as_numbers(KIND_YES, 0),
+        Answer::No => as_numbers(KIND_NO, 0),
+        Answer::Refused(refusal) => as_numbers(KIND_REFUSED, refusal),
     }
 }
 
@@ -43,7 +55,13 @@ pub fn call_numbered(setup: Setup, store: Store, op: u32, p: u32, f: u32, x: u32
     ensures { λ r. let c = called setup store (numbers op p f x) in
         ⌜ (r .numbered .kind ≡ kindOf (c .answer)) × (r .numbered .value ≡ valueOf (c .answer)) × (r .store ≡ c .store) ⌝ }
 {
-    let outcome = call(setup, store, op, p, f, x);
+    let n = Numbers {
+        operation: op,
+        process: p,
+        file: f,
+        extra: x,
+    };
+    let outcome = call(setup, store, n);
     let answer = outcome.answer;
     let next = outcome.store;
     let numbered = numbers_of(answer);

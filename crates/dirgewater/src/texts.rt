@@ -2,6 +2,8 @@
 use crate::Numbered;
 use lines::GivenText;
 use lines::Reading;
+use rules::KIND_DONE;
+use rules::KIND_REFUSED;
 use rules::Setup;
 use text::reading::read_alone;
 use text::reading::read_with_calls;
@@ -25,7 +27,10 @@ fn text_numbers_of(given: GivenText) -> TextRead
     let reading = given.reading;
     match reading {
         Reading::Read(value) => {
-            let numbered = Numbered { kind: 0, value };
+            let numbered = Numbered {
+                kind: KIND_DONE,
+                value,
+            };
             TextRead {
                 numbered,
                 offset: 0,
@@ -33,7 +38,10 @@ fn text_numbers_of(given: GivenText) -> TextRead
             }
         }
         Reading::Refused(value, offset) => {
-            let numbered = Numbered { kind: 4, value };
+            let numbered = Numbered {
+                kind: KIND_REFUSED,
+                value,
+            };
             TextRead {
                 numbered,
                 offset,

@@ -13,9 +13,9 @@ use Rattle.lines.specs.Bytes.{lineFeed, tab, same}
 use Rattle.lines.specs.Lines.{fieldsOf}
 use Rattle.lines.specs.Decimals.{numberOf}
 use Rattle.lines.specs.Shapes.{named, Part, theWord, aNumber, oneOf, Shape, before, readAs, made, either}
-use Rattle.lines.proofs.Lines.{without, first-piece, pieces-last, pieces-first}
+use Rattle.lines.proofs.Lines.{holdsNo, first-piece, pieces-last, pieces-first}
 use Rattle.fields.specs.Cursor.{Found, foundAt, told, afterField, partOf, partAt, firstLine, isWhole, lineAt}
-use Rattle.fields.proofs.Firsts.{Cut, cut-none, cut-tab, cut-feed, cut, part-here, drop-past, firstLine-past, isWhole-past, told-some, told-none, part-told}
+use Rattle.fields.proofs.Firsts.{FirstStop, no-stop, tab-stop, feed-stop, first-stop, part-here, drop-past, firstLine-past, isWhole-past, told-some, told-none, part-told}
 
 -- the number of a part before those of the parts that follow; a word gives none
 abbrev pub giving : Part → ℕ → List ℕ → List ℕ
@@ -81,7 +81,7 @@ nothing-after part o false end = refl
 
 -- a line whose first field a tab ends: its fields are that field and those of the line after the tab
 module _ (read : List (List ℕ) → Option (List ℕ)) (text : List ℕ) (at : ℕ) (field more : List ℕ) where
-  line-past-tab : drop at text ≡ field ++ (tab ∷ more) → without tab field ≡ true → without lineFeed field ≡ true
+  line-past-tab : drop at text ≡ field ++ (tab ∷ more) → holdsNo tab field ≡ true → holdsNo lineFeed field ≡ true
       → lineAt read text at ≡ cond (isWhole more) (foundAt (at + length field + 1 + length (firstLine more) + 1) (read (field ∷ fieldsOf (firstLine more)))) none
   unfolding lineAt fieldsOf firstLine isWhole
   line-past-tab e w v =
@@ -89,50 +89,51 @@ module _ (read : List (List ℕ) → Option (List ℕ)) (text : List ℕ) (at : 
       rw (e, isWhole-past field (tab ∷ more) v, firstLine-past field (tab ∷ more) v, long, pieces-first tab field (firstLine more) w)
 
   -- and one whose first field an LF ends is that field
-  line-to-feed : drop at text ≡ field ++ (lineFeed ∷ more) → without tab field ≡ true → without lineFeed field ≡ true
+  line-to-feed : drop at text ≡ field ++ (lineFeed ∷ more) → holdsNo tab field ≡ true → holdsNo lineFeed field ≡ true
       → lineAt read text at ≡ foundAt (at + length field + 1) (read (field ∷ []))
   unfolding lineAt fieldsOf firstLine isWhole
   line-to-feed e w v =
       rw (e, isWhole-past field (lineFeed ∷ more) v, firstLine-past field (lineFeed ∷ more) v, append-nil field, pieces-last tab field w)
 
--- a field that another mark ends, or none, is no part
-part-other : (part : Part) (mark other : ℕ) (text : List ℕ) (at : ℕ) (more : List ℕ) → afterField (drop at text) ≡ other ∷ more → eqb other mark ≡ false
-    → partAt part mark text at ≡ none
+-- a field that another stop ends, or none, is no part
+part-other : (part : Part) (stop other : ℕ) (text : List ℕ) (at : ℕ) (more : List ℕ) → afterField (drop at text) ≡ other ∷ more → eqb other stop ≡ false
+    → partAt part stop text at ≡ none
 unfolding partAt
-part-other part mark other text at more a h = rw (a, h)
+part-other part stop other text at more a h = rw (a, h)
 
-part-unended : (part : Part) (mark : ℕ) (text : List ℕ) (at : ℕ) → afterField (drop at text) ≡ [] → partAt part mark text at ≡ none
+part-unended : (part : Part) (stop : ℕ) (text : List ℕ) (at : ℕ) → afterField (drop at text) ≡ [] → partAt part stop text at ≡ none
 unfolding partAt
-part-unended part mark text at a = rw a
+part-unended part stop text at a = rw a
 
-line-unended : (read : List (List ℕ) → Option (List ℕ)) (text : List ℕ) (at : ℕ) → without lineFeed (drop at text) ≡ true → lineAt read text at ≡ none
+line-unended : (read : List (List ℕ) → Option (List ℕ)) (text : List ℕ) (at : ℕ) → holdsNo lineFeed (drop at text) ≡ true → lineAt read text at ≡ none
 unfolding lineAt isWhole
 line-unended read text at w =
     let unwhole : isWhole (drop at text) ≡ false = rw (append-nil (drop at text)) at (isWhole-past (drop at text) [] w) in
     rw unwhole
 
-last-cut : (part : Part) (text : List ℕ) (at : ℕ) → Cut (drop at text) → lineAt (readAs (part ∷ [])) text at ≡ ended part (partAt part lineFeed text at)
-last-cut part text at (cut-none w a) = rw (line-unended (readAs (part ∷ [])) text at w, part-unended part lineFeed text at a)
-last-cut part text at (cut-tab field more e w v f a) =
+last-by-stop : (part : Part) (text : List ℕ) (at : ℕ) → FirstStop (drop at text)
+    → lineAt (readAs (part ∷ [])) text at ≡ ended part (partAt part lineFeed text at)
+last-by-stop part text at (no-stop w a) = rw (line-unended (readAs (part ∷ [])) text at w, part-unended part lineFeed text at a)
+last-by-stop part text at (tab-stop field more e w v f a) =
     let (p, ps, q) = first-piece tab (firstLine more) in
     let fields : readAs (part ∷ []) (field ∷ fieldsOf (firstLine more)) ≡ joining part (partOf part field) none =
     readAs-joining part [] field (fieldsOf (firstLine more)) ∙ (unfold readAs fieldsOf in rw q) in
     line-past-tab (readAs (part ∷ [])) text at field more e w v
     ∙ rw (fields, part-other part lineFeed tab text at more a refl)
     (nothing-after part (partOf part field) (isWhole more) (at + length field + 1 + length (firstLine more) + 1))
-last-cut part text at (cut-feed field more e w v f a) =
+last-by-stop part text at (feed-stop field more e w v f a) =
     line-to-feed (readAs (part ∷ [])) text at field more e w v
     ∙ rw (readAs-joining part [] field [], part-here part lineFeed text at field more f a)
     (unfold readAs in ended-joining part (partOf part field) (at + length field + 1))
 
 -- the last part of a line
 pub line-last : (part : Part) (text : List ℕ) (at : ℕ) → lineAt (readAs (part ∷ [])) text at ≡ ended part (partAt part lineFeed text at)
-line-last part text at = last-cut part text at (cut (drop at text))
+line-last part text at = last-by-stop part text at (first-stop (drop at text))
 
-more-cut : (part next : Part) (parts : Shape) (text : List ℕ) (at : ℕ) → Cut (drop at text)
+more-by-stop : (part next : Part) (parts : Shape) (text : List ℕ) (at : ℕ) → FirstStop (drop at text)
     → lineAt (readAs (part ∷ next ∷ parts)) text at ≡ followed part (partAt part tab text at) (lineAt (readAs (next ∷ parts)) text)
-more-cut part next parts text at (cut-none w a) = rw (line-unended (readAs (part ∷ next ∷ parts)) text at w, part-unended part tab text at a)
-more-cut part next parts text at (cut-tab field more e w v f a) =
+more-by-stop part next parts text at (no-stop w a) = rw (line-unended (readAs (part ∷ next ∷ parts)) text at w, part-unended part tab text at a)
+more-by-stop part next parts text at (tab-stop field more e w v f a) =
     let after : lineAt (readAs (next ∷ parts)) text (at + length field + 1)
     ≡ cond (isWhole more) (foundAt (at + length field + 1 + length (firstLine more) + 1) (readAs (next ∷ parts) (fieldsOf (firstLine more)))) none =
     unfold lineAt in rw (drop-past text at tab field more e) in
@@ -140,7 +141,7 @@ more-cut part next parts text at (cut-tab field more e w v f a) =
     ∙ rw (readAs-joining part (next ∷ parts) field (fieldsOf (firstLine more)), part-here part tab text at field more f a)
     (followed-joining part (partOf part field) (readAs (next ∷ parts) (fieldsOf (firstLine more))) (isWhole more) (at + length field + 1)
     (at + length field + 1 + length (firstLine more) + 1) (lineAt (readAs (next ∷ parts)) text) after)
-more-cut part next parts text at (cut-feed field more e w v f a) =
+more-by-stop part next parts text at (feed-stop field more e w v f a) =
     line-to-feed (readAs (part ∷ next ∷ parts)) text at field more e w v
     ∙ rw (readAs-joining part (next ∷ parts) field [], part-other part tab lineFeed text at more a refl)
     (unfold readAs in nothing-after part (partOf part field) true (at + length field + 1))
@@ -148,7 +149,7 @@ more-cut part next parts text at (cut-feed field more e w v f a) =
 -- a part before others
 pub line-more : (part next : Part) (parts : Shape) (text : List ℕ) (at : ℕ)
     → lineAt (readAs (part ∷ next ∷ parts)) text at ≡ followed part (partAt part tab text at) (lineAt (readAs (next ∷ parts)) text)
-line-more part next parts text at = more-cut part next parts text at (cut (drop at text))
+line-more part next parts text at = more-by-stop part next parts text at (first-stop (drop at text))
 
 -- what code tells of the last part of a line it tells of the line
 pub line-ends : (part : Part) (text : List ℕ) (at r n : ℕ) → told r n ≡ partAt part lineFeed text at
@@ -157,9 +158,9 @@ line-ends part text at zero n e = sym (line-last part text at ∙ rw (← e))
 line-ends part text at (suc r) n e = sym (line-last part text at ∙ rw (← e))
 
 -- where a part is not found the line is not
-pub line-stops : (part next : Part) (parts : Shape) (text : List ℕ) (at r n : ℕ) → told r n ≡ partAt part tab text at → r ≡ 0
+pub line-lacks : (part next : Part) (parts : Shape) (text : List ℕ) (at r n : ℕ) → told r n ≡ partAt part tab text at → r ≡ 0
     → none ≡ lineAt (readAs (part ∷ next ∷ parts)) text at
-line-stops part next parts text at r n e z =
+line-lacks part next parts text at r n e z =
     let nothing : partAt part tab text at ≡ none = sym e ∙ told-none r n z in
     sym (line-more part next parts text at ∙ rw nothing)
 
@@ -254,8 +255,8 @@ module _ {ℓ} {A : Type ℓ} {read : List (List ℕ) → Option A} {text : List
     }
 
     -- a part that is not there
-    pub begun-stops : {r q : ℕ} (n : ℕ) (x : A) → told r n ≡ partAt part tab text from → r ≡ 0 → q ≡ 0 → told q x ≡ lineAt read text at
-    begun-stops {r} {q} n x e z w = told-none q x w ∙ b .goes 0 [] (line-stops part next parts text from r n e z)
+    pub begun-lacks : {r q : ℕ} (n : ℕ) (x : A) → told r n ≡ partAt part tab text from → r ≡ 0 → q ≡ 0 → told q x ≡ lineAt read text at
+    begun-lacks {r} {q} n x e z w = told-none q x w ∙ b .goes 0 [] (line-lacks part next parts text from r n e z)
 
   -- the last part
   pub begun-ends : Begun read text at (part ∷ []) from front → (r n : ℕ) → told r n ≡ partAt part lineFeed text from

@@ -1,4 +1,4 @@
--- Laws of the first field and the first line of bytes: where each ends, what stands before its mark, and what follows it.
+-- Laws of the first field and the first line of bytes: where each ends, what stands before its stop, and what follows it.
 -- Assumes nothing.
 use Prim.Native.Nat.{ℕ, zero, suc, _+_, _≤_, _<_}
 use mathlib.Core.Path.{_≡_, refl, ap, sym, _∙_}
@@ -17,77 +17,77 @@ use Rattle.rules.proofs.Lists.{by-test, neither}
 use Rattle.lines.specs.Bytes.{lineFeed, tab}
 use Rattle.lines.specs.Lines.{fieldsOf}
 use Rattle.lines.specs.Shapes.{Part}
-use Rattle.lines.proofs.Lines.{without}
+use Rattle.lines.proofs.Lines.{holdsNo}
 use Rattle.lines.proofs.Shapes.{none-some}
-use Rattle.fields.specs.Cursor.{foundAt, told, isMark, firstField, afterField, startsWith, partOf, partAt, firstLine, isWhole, lineAt}
+use Rattle.fields.specs.Cursor.{foundAt, told, isStop, firstField, afterField, startsWith, partOf, partAt, firstLine, isWhole, lineAt}
 
--- where bytes are cut first: nowhere, at a tab, or at an LF
-pub data Cut (rest : List ℕ) : Type 0 where
-  cut-none : without lineFeed rest ≡ true → afterField rest ≡ [] → Cut rest
-  cut-tab : (field more : List ℕ) → rest ≡ field ++ (tab ∷ more) → without tab field ≡ true → without lineFeed field ≡ true
-      → firstField rest ≡ field → afterField rest ≡ tab ∷ more → Cut rest
-  cut-feed : (field more : List ℕ) → rest ≡ field ++ (lineFeed ∷ more) → without tab field ≡ true → without lineFeed field ≡ true
-      → firstField rest ≡ field → afterField rest ≡ lineFeed ∷ more → Cut rest
+-- the first stop of bytes: none, a tab, or an LF
+pub data FirstStop (rest : List ℕ) : Type 0 where
+  no-stop : holdsNo lineFeed rest ≡ true → afterField rest ≡ [] → FirstStop rest
+  tab-stop : (field more : List ℕ) → rest ≡ field ++ (tab ∷ more) → holdsNo tab field ≡ true → holdsNo lineFeed field ≡ true
+      → firstField rest ≡ field → afterField rest ≡ tab ∷ more → FirstStop rest
+  feed-stop : (field more : List ℕ) → rest ≡ field ++ (lineFeed ∷ more) → holdsNo tab field ≡ true → holdsNo lineFeed field ≡ true
+      → firstField rest ≡ field → afterField rest ≡ lineFeed ∷ more → FirstStop rest
 
-cut-later : (b : ℕ) (rest : List ℕ) → eqb b tab ≡ false → eqb b lineFeed ≡ false → Cut rest → Cut (b ∷ rest)
+later-stop : (b : ℕ) (rest : List ℕ) → eqb b tab ≡ false → eqb b lineFeed ≡ false → FirstStop rest → FirstStop (b ∷ rest)
 unfolding firstField afterField
-cut-later b rest t l (cut-none w a) = cut-none (rw (l, w)) (rw (t, l) a)
-cut-later b rest t l (cut-tab field more e w v f a) = cut-tab (b ∷ field) more (cc) (rw (t, w)) (rw (l, v)) (rw (t, l) (cc)) (rw (t, l) a)
-cut-later b rest t l (cut-feed field more e w v f a) = cut-feed (b ∷ field) more (cc) (rw (t, w)) (rw (l, v)) (rw (t, l) (cc)) (rw (t, l) a)
+later-stop b rest t l (no-stop w a) = no-stop (rw (l, w)) (rw (t, l) a)
+later-stop b rest t l (tab-stop field more e w v f a) = tab-stop (b ∷ field) more (cc) (rw (t, w)) (rw (l, v)) (rw (t, l) (cc)) (rw (t, l) a)
+later-stop b rest t l (feed-stop field more e w v f a) = feed-stop (b ∷ field) more (cc) (rw (t, w)) (rw (l, v)) (rw (t, l) (cc)) (rw (t, l) a)
 
-pub cut : (rest : List ℕ) → Cut rest
+pub first-stop : (rest : List ℕ) → FirstStop rest
 unfolding firstField afterField
-cut [] = cut-none refl refl
-cut (b ∷ rest) =
+first-stop [] = no-stop refl refl
+first-stop (b ∷ rest) =
     by-test (eqb b tab)
-    (λ t. let e = eqb-true b tab t in cut-tab [] rest (cc) refl refl (rw t) (rw t (cc)))
+    (λ t. let e = eqb-true b tab t in tab-stop [] rest (cc) refl refl (rw t) (rw t (cc)))
     (λ t.
     by-test (eqb b lineFeed)
-    (λ l. let e = eqb-true b lineFeed l in cut-feed [] rest (cc) refl refl (rw (t, l)) (rw (t, l) (cc)))
-    (λ l. cut-later b rest t l (cut rest)))
+    (λ l. let e = eqb-true b lineFeed l in feed-stop [] rest (cc) refl refl (rw (t, l)) (rw (t, l) (cc)))
+    (λ l. later-stop b rest t l (first-stop rest)))
 
 -- a field and what follows it are the bytes
 pub field-whole : (rest : List ℕ) → rest ≡ firstField rest ++ afterField rest
 unfolding firstField afterField
 field-whole [] = refl
-field-whole (b ∷ rest) = by-test (isMark b) (λ t. rw t) (λ f. rw f (ap (λ (l : List ℕ). b ∷ l) (field-whole rest)))
+field-whole (b ∷ rest) = by-test (isStop b) (λ t. rw t) (λ f. rw f (ap (λ (l : List ℕ). b ∷ l) (field-whole rest)))
 
--- one that a mark ends is read by its part
-pub part-here : (part : Part) (mark : ℕ) (text : List ℕ) (at : ℕ) (field more : List ℕ) → firstField (drop at text) ≡ field
-    → afterField (drop at text) ≡ mark ∷ more → partAt part mark text at ≡ foundAt (at + length field + 1) (partOf part field)
+-- one that a stop ends is read by its part
+pub part-here : (part : Part) (stop : ℕ) (text : List ℕ) (at : ℕ) (field more : List ℕ) → firstField (drop at text) ≡ field
+    → afterField (drop at text) ≡ stop ∷ more → partAt part stop text at ≡ foundAt (at + length field + 1) (partOf part field)
 unfolding partAt
-part-here part mark text at field more f a = rw (f, a, eq-eqb mark mark refl)
+part-here part stop text at field more f a = rw (f, a, eq-eqb stop stop refl)
 
--- bytes before a mark and the mark, dropped, leave what follows the mark
-pub drop-past : (text : List ℕ) (at mark : ℕ) (bytes more : List ℕ) → drop at text ≡ bytes ++ (mark ∷ more)
+-- bytes before a stop and the stop, dropped, leave what follows the stop
+pub drop-past : (text : List ℕ) (at stop : ℕ) (bytes more : List ℕ) → drop at text ≡ bytes ++ (stop ∷ more)
     → drop (at + length bytes + 1) text ≡ more
-drop-past text at mark bytes more e =
-    rw (add-assoc at (length bytes) 1, ← drop-drop (length bytes + 1) at text, e) (drop-append-add bytes (mark ∷ more) 1)
+drop-past text at stop bytes more e =
+    rw (add-assoc at (length bytes) 1, ← drop-drop (length bytes + 1) at text, e) (drop-append-add bytes (stop ∷ more) 1)
 
 -- the first line goes on past bytes that hold no LF, and is whole where what follows them is
-pub firstLine-past : (bytes more : List ℕ) → without lineFeed bytes ≡ true → firstLine (bytes ++ more) ≡ bytes ++ firstLine more
+pub firstLine-past : (bytes more : List ℕ) → holdsNo lineFeed bytes ≡ true → firstLine (bytes ++ more) ≡ bytes ++ firstLine more
 unfolding firstLine
 firstLine-past [] more h = refl
 firstLine-past (b ∷ bytes) more h =
-    let (n, w) = and-eq-true-iff (not (eqb b lineFeed)) (without lineFeed bytes) .0 h in
+    let (n, w) = and-eq-true-iff (not (eqb b lineFeed)) (holdsNo lineFeed bytes) .0 h in
     rw (not-true (eqb b lineFeed) n, firstLine-past bytes more w)
 
-pub isWhole-past : (bytes more : List ℕ) → without lineFeed bytes ≡ true → isWhole (bytes ++ more) ≡ isWhole more
+pub isWhole-past : (bytes more : List ℕ) → holdsNo lineFeed bytes ≡ true → isWhole (bytes ++ more) ≡ isWhole more
 unfolding isWhole
 isWhole-past [] more h = refl
 isWhole-past (b ∷ bytes) more h =
-    let (n, w) = and-eq-true-iff (not (eqb b lineFeed)) (without lineFeed bytes) .0 h in
+    let (n, w) = and-eq-true-iff (not (eqb b lineFeed)) (holdsNo lineFeed bytes) .0 h in
     rw (not-true (eqb b lineFeed) n, isWhole-past bytes more w)
 
 -- the first line holds no LF
-pub line-without : (rest : List ℕ) → without lineFeed (firstLine rest) ≡ true
+pub line-without : (rest : List ℕ) → holdsNo lineFeed (firstLine rest) ≡ true
 unfolding firstLine
 line-without [] = refl
 line-without (b ∷ rest) =
     by-test (eqb b lineFeed) (λ t. rw t) (λ f. rw (f, f, line-without rest))
 
 -- bytes without a whole line are a line with no LF, and so one piece
-pub unwhole-without : (rest : List ℕ) → isWhole rest ≡ false → without lineFeed rest ≡ true
+pub unwhole-without : (rest : List ℕ) → isWhole rest ≡ false → holdsNo lineFeed rest ≡ true
 unfolding isWhole
 unwhole-without [] h = refl
 unwhole-without (b ∷ rest) h =
@@ -126,19 +126,19 @@ none-under false k o e = inr refl
 none-under true k none e = inl (refl, refl)
 none-under true k (some y) e = absurd (none-some (sym e))
 
--- bytes that start with a mark are some
-starts-some : (mark : ℕ) (bytes : List ℕ) → startsWith mark bytes ≡ true → 0 < length bytes
-starts-some mark [] t = absurd (false≢true t)
-starts-some mark (b ∷ bytes) t = omega arith
+-- bytes that start with a stop are some
+starts-some : (stop : ℕ) (bytes : List ℕ) → startsWith stop bytes ≡ true → 0 < length bytes
+starts-some stop [] t = absurd (false≢true t)
+starts-some stop (b ∷ bytes) t = omega arith
 
--- a field that a mark ends lies within the text, and so does its mark
-pub part-within : (part : Part) (mark : ℕ) (text : List ℕ) (at : ℕ) {next n : ℕ} → partAt part mark text at ≡ some (next, n)
+-- a field that a stop ends lies within the text, and so does its stop
+pub part-within : (part : Part) (stop : ℕ) (text : List ℕ) (at : ℕ) {next n : ℕ} → partAt part stop text at ≡ some (next, n)
     → (at < next) × (next ≤ length text)
 unfolding partAt
-part-within part mark text at {next} {n} e =
+part-within part stop text at {next} {n} e =
     let rest = drop at text in
-    let (t, k, o) = found-under (startsWith mark (afterField rest)) (at + length (firstField rest) + 1) (partOf part (firstField rest)) e in
-    let some-left : 0 < length (afterField rest) = starts-some mark (afterField rest) t in
+    let (t, k, o) = found-under (startsWith stop (afterField rest)) (at + length (firstField rest) + 1) (partOf part (firstField rest)) e in
+    let some-left : 0 < length (afterField rest) = starts-some stop (afterField rest) t in
     let l = simp length-append at (ap length (field-whole rest)) in
     let m = length-drop at text in
     (omega arith, omega arith)
@@ -146,7 +146,7 @@ part-within part mark text at {next} {n} e =
 -- a line that is found is the bytes from the cursor as far as the next LF, and the cursor after it is past that LF
 pub record LineFound {ℓ} {A : Type ℓ} (read : List (List ℕ) → Option A) (text : List ℕ) (at next : ℕ) (x : A) : Type ℓ where
   pub here : drop at text ≡ firstLine (drop at text) ++ (lineFeed ∷ drop next text)
-  pub plain : without lineFeed (firstLine (drop at text)) ≡ true
+  pub plain : holdsNo lineFeed (firstLine (drop at text)) ≡ true
   pub past : next ≡ at + length (firstLine (drop at text)) + 1
   pub reads : read (fieldsOf (firstLine (drop at text))) ≡ some x
 
@@ -180,6 +180,6 @@ line-within read text at {next} {x} e =
     (omega arith, omega arith)
 
 -- the same of what code tells of a field
-pub part-told : (part : Part) (mark : ℕ) (text : List ℕ) (at r n : ℕ) → told r n ≡ partAt part mark text at → (r ≡ 0 → ⊥)
+pub part-told : (part : Part) (stop : ℕ) (text : List ℕ) (at r n : ℕ) → told r n ≡ partAt part stop text at → (r ≡ 0 → ⊥)
     → (at < r) × (r ≤ length text)
-part-told part mark text at r n e h = part-within part mark text at (sym e ∙ told-some r n h)
+part-told part stop text at r n e h = part-within part stop text at (sym e ∙ told-some r n h)

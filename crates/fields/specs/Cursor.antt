@@ -23,27 +23,27 @@ abbrev pub told {ℓ} : {A : Type ℓ} → ℕ → A → Found A
 told zero x = none
 told (suc next) x = some (suc next, x)
 
--- a tab or an LF ends a field
-abbrev pub isMark : ℕ → Bool
-isMark b = eqb b tab || eqb b lineFeed
+-- a stop ends a field: a tab or an LF
+abbrev pub isStop : ℕ → Bool
+isStop b = eqb b tab || eqb b lineFeed
 
 -- so a word that is to be found holds none
-abbrev pub noMark : List ℕ → Bool
-noMark [] = true
-noMark (b ∷ rest) = not (isMark b) && noMark rest
+abbrev pub noStop : List ℕ → Bool
+noStop [] = true
+noStop (b ∷ rest) = not (isStop b) && noStop rest
 
--- the first field of bytes; and from the mark that ends it on
+-- the first field of bytes; and from the stop that ends it on
 unfoldable pub firstField : List ℕ → List ℕ
 firstField [] = []
-firstField (b ∷ rest) = cond (isMark b) [] (b ∷ firstField rest)
+firstField (b ∷ rest) = cond (isStop b) [] (b ∷ firstField rest)
 
 unfoldable pub afterField : List ℕ → List ℕ
 afterField [] = []
-afterField (b ∷ rest) = cond (isMark b) (b ∷ rest) (afterField rest)
+afterField (b ∷ rest) = cond (isStop b) (b ∷ rest) (afterField rest)
 
 abbrev pub startsWith : ℕ → List ℕ → Bool
-startsWith mark [] = false
-startsWith mark (b ∷ rest) = eqb b mark
+startsWith stop [] = false
+startsWith stop (b ∷ rest) = eqb b stop
 
 -- the number that a field is by a part of a shape; for a word that must stand there it is 0
 abbrev pub partOf : Part → List ℕ → Option ℕ
@@ -51,12 +51,12 @@ partOf (theWord w) field = cond (same w field) (some 0) none
 partOf aNumber field = numberOf field
 partOf (oneOf words) field = named words field
 
--- the first field from a cursor on, as a part, where this mark ends it
+-- the first field from a cursor on, as a part, where this stop ends it
 unfoldable pub partAt : Part → ℕ → List ℕ → ℕ → Found ℕ
-partAt part mark text at =
+partAt part stop text at =
     let rest = drop at text in
     let field = firstField rest in
-    cond (startsWith mark (afterField rest)) (foundAt (at + length field + 1) (partOf part field)) none
+    cond (startsWith stop (afterField rest)) (foundAt (at + length field + 1) (partOf part field)) none
 
 -- the first line of bytes without its LF; and whether its LF is there
 unfoldable pub firstLine : List ℕ → List ℕ

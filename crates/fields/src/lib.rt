@@ -3,7 +3,9 @@ pub mod parts;
 pub mod shapes;
 pub mod words;
 
-// In each of these `next` is the cursor after what was read and its mark, and 0 where the bytes are none such.
+use rules::Numbers;
+
+// In each of these `next` is the cursor after what was read and its stop, and 0 where the bytes are none such.
 pub struct Number {
     pub next: usize,
     pub value: u32,
@@ -34,10 +36,7 @@ pub struct Pair {
 }
 
 // The numbers of a call line.
-pub struct Quad {
+pub struct CallNumbers {
     pub next: usize,
-    pub op: u32,
-    pub p: u32,
-    pub f: u32,
-    pub x: u32,
+    pub numbers: Numbers,
 }

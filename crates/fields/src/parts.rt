@@ -1,20 +1,20 @@
 // One field at a cursor: a word, a number, or one of several words.
 use crate::Number;
-use crate::words::CLOSE;
-use crate::words::COPY;
 use crate::words::DIGIT_0;
 use crate::words::DIGIT_9;
 use crate::words::LINE_FEED;
-use crate::words::LOCK;
-use crate::words::OPEN;
-use crate::words::READ;
 use crate::words::TAB;
-use crate::words::TESTLOCK;
-use crate::words::UNLOCK;
+use crate::words::WORD_CLOSE;
+use crate::words::WORD_COPY;
+use crate::words::WORD_LOCK;
+use crate::words::WORD_OPEN;
 use crate::words::WORD_R;
+use crate::words::WORD_READ;
 use crate::words::WORD_RW;
+use crate::words::WORD_TESTLOCK;
+use crate::words::WORD_UNLOCK;
 use crate::words::WORD_W;
-use crate::words::WRITE;
+use crate::words::WORD_WRITE;
 use rules::BOTH;
 use rules::CODE_OF_CLOSE;
 use rules::CODE_OF_COPY;
@@ -33,7 +33,7 @@ ghost use lib.ListN.{length};
 ghost use Rattle.lines.specs.Bytes.{lineFeed, tab};
 ghost use Rattle.lines.specs.Decimals.{isDigit};
 ghost use Rattle.lines.specs.Shapes.{theWord, aNumber, oneOf, rightWords, plainWords, extraWords};
-ghost use Rattle.fields.specs.Cursor.{isMark, noMark, partAt, told};
+ghost use Rattle.fields.specs.Cursor.{isStop, noStop, partAt, told};
 
 // The largest number that a field can be.
 pub const MOST: u64 = 4294967295;
@@ -58,12 +58,12 @@ fn no_number() -> Number
     Number { next: 0, value: 0 }
 }
 
-// The cursor after a word and its mark, or 0.
-pub fn word_at(text: &[u8], at: usize, word: &[u8], mark: u8) -> usize
-    requires { ⌜ (at ≤ length (now text)) × (noMark (now word) ≡ true) × (isMark mark ≡ true) ⌝ }
-    ensures { λ r. ⌜ told r 0 ≡ partAt (theWord (now (word .entry))) mark (now (text .entry)) at ⌝ }
+// The cursor after a word and its stop, or 0.
+pub fn word_at(text: &[u8], at: usize, word: &[u8], stop: u8) -> usize
+    requires { ⌜ (at ≤ length (now text)) × (noStop (now word) ≡ true) × (isStop stop ≡ true) ⌝ }
+    ensures { λ r. ⌜ told r 0 ≡ partAt (theWord (now (word .entry))) stop (now (text .entry)) at ⌝ }
 {
-    // the word and its mark do not fit into what is left
+    // the word and its stop do not fit into what is left
     if text.len() - at <= word.len() {
         return 0;
     }
@@ -74,16 +74,16 @@ pub fn word_at(text: &[u8], at: usize, word: &[u8], mark: u8) -> usize
         }
         i += 1;
     }
-    if text[at + i] != mark {
+    if text[at + i] != stop {
         return 0;
     }
     at + i + 1
 }
 
-// The number whose digits stand at the cursor, with a mark after them.
-pub fn number_at(text: &[u8], at: usize, mark: u8) -> Number
-    requires { ⌜ (at ≤ length (now text)) × (isMark mark ≡ true) ⌝ }
-    ensures { λ r. ⌜ told (r .next) (r .value) ≡ partAt aNumber mark (now (text .entry)) at ⌝ }
+// The number whose digits stand at the cursor, with a stop after them.
+pub fn decimal_at(text: &[u8], at: usize, stop: u8) -> Number
+    requires { ⌜ (at ≤ length (now text)) × (isStop stop ≡ true) ⌝ }
+    ensures { λ r. ⌜ told (r .next) (r .value) ≡ partAt aNumber stop (now (text .entry)) at ⌝ }
 {
     let mut value: u64 = 0;
     let mut i = at;
@@ -104,7 +104,7 @@ pub fn number_at(text: &[u8], at: usize, mark: u8) -> Number
     if i == text.len() {
         return no_number();
     }
-    if text[i] != mark {
+    if text[i] != stop {
         return no_number();
     }
     // a leading zero is taken for 0 itself alone
@@ -139,27 +139,27 @@ pub fn plain_word_at(text: &[u8], at: usize) -> Number
     requires { ⌜ at ≤ length (now text) ⌝ }
     ensures { λ r. ⌜ told (r .next) (r .value) ≡ partAt (oneOf plainWords) tab (now (text .entry)) at ⌝ }
 {
-    let read = word_at(text, at, &READ, TAB);
+    let read = word_at(text, at, &WORD_READ, TAB);
     if read != 0 {
         return number(read, CODE_OF_READ);
     }
-    let lock = word_at(text, at, &LOCK, TAB);
+    let lock = word_at(text, at, &WORD_LOCK, TAB);
     if lock != 0 {
         return number(lock, CODE_OF_LOCK);
     }
-    let unlock = word_at(text, at, &UNLOCK, TAB);
+    let unlock = word_at(text, at, &WORD_UNLOCK, TAB);
     if unlock != 0 {
         return number(unlock, CODE_OF_UNLOCK);
     }
-    let open = word_at(text, at, &OPEN, TAB);
+    let open = word_at(text, at, &WORD_OPEN, TAB);
     if open != 0 {
         return number(open, CODE_OF_OPEN);
     }
-    let close = word_at(text, at, &CLOSE, TAB);
+    let close = word_at(text, at, &WORD_CLOSE, TAB);
     if close != 0 {
         return number(close, CODE_OF_CLOSE);
     }
-    let testlock = word_at(text, at, &TESTLOCK, TAB);
+    let testlock = word_at(text, at, &WORD_TESTLOCK, TAB);
     number(testlock, CODE_OF_TESTLOCK)
 }
 
@@ -168,10 +168,10 @@ pub fn extra_word_at(text: &[u8], at: usize) -> Number
     requires { ⌜ at ≤ length (now text) ⌝ }
     ensures { λ r. ⌜ told (r .next) (r .value) ≡ partAt (oneOf extraWords) tab (now (text .entry)) at ⌝ }
 {
-    let write = word_at(text, at, &WRITE, TAB);
+    let write = word_at(text, at, &WORD_WRITE, TAB);
     if write != 0 {
         return number(write, CODE_OF_WRITE);
     }
-    let copy = word_at(text, at, &COPY, TAB);
+    let copy = word_at(text, at, &WORD_COPY, TAB);
     number(copy, CODE_OF_COPY)
 }

@@ -4,11 +4,16 @@ use crate::fitting::within_sizes;
 use crate::rights::entry_at;
 use rules::BOTH;
 use rules::CLASSES;
+use rules::COUNT_OUTSIDE;
 use rules::FILES;
 use rules::GivenSetup;
+use rules::NO_SUCH_CLASS;
+use rules::NO_SUCH_DESK;
 use rules::PROCESSES;
+use rules::RIGHT_ABOVE;
 use rules::RIGHTS;
 use rules::Setup;
+use rules::WRONG_LENGTH;
 ghost use mathlib.Core.Path.{_≡_};
 ghost use Prim.Native.Nat.{_<_, _≤_};
 ghost use lib.ListN.{length, getD};
@@ -90,19 +95,19 @@ fn setup_refusal(
     ensures { λ r. ⌜ r ≡ setupRefusal (setupBytes desks classes processes files (now (rights .entry)) (now (desk .entry)) (now (class .entry))) ⌝ }
 {
     if !within_sizes(desks, classes, processes, files) {
-        return 1;
+        return COUNT_OUTSIDE;
     }
     if !slices_match(desks, classes, processes, files, rights, desk, class) {
-        return 10;
+        return WRONG_LENGTH;
     }
     if some_from(rights, BOTH as usize + 1) {
-        return 2;
+        return RIGHT_ABOVE;
     }
     if some_from(desk, desks as usize) {
-        return 3;
+        return NO_SUCH_DESK;
     }
     if some_from(class, classes as usize) {
-        return 4;
+        return NO_SUCH_CLASS;
     }
     0
 }

@@ -6,10 +6,12 @@ use rules::BOTH;
 use rules::CLASSES;
 use rules::Content;
 use rules::DESKS;
+use rules::DOES_NOT_FIT;
 use rules::FILES;
 use rules::GivenStore;
 use rules::LEAST;
 use rules::MARKS;
+use rules::NOT_ACCEPTED;
 use rules::PROCESSES;
 use rules::Setup;
 use rules::Store;
@@ -229,10 +231,10 @@ pub fn judge(setup: Setup, store: Store) -> u32
     ensures { λ r. ⌜ r ≡ judgeRefusal setup store ⌝ }
 {
     if !accepted(setup) {
-        return 15;
+        return NOT_ACCEPTED;
     }
     if !store_fits(setup, store) {
-        return 16;
+        return DOES_NOT_FIT;
     }
     0
 }
@@ -255,7 +257,10 @@ pub fn fresh(setup: Setup) -> GivenStore
     if !accepted(setup) {
         // A mark of 2 is neither 0 nor 1, so this store fits no setup.
         let store = store_of(2);
-        return GivenStore { refusal: 15, store };
+        return GivenStore {
+            refusal: NOT_ACCEPTED,
+            store,
+        };
     }
     let store = store_of(0);
     GivenStore { refusal: 0, store }

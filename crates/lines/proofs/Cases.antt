@@ -6,13 +6,14 @@ use mathlib.Core.Bool.{Bool, true}
 use mathlib.Core.List.{List, [], _∷_, _++_}
 use Rattle.rules.specs.Sizes.{table, mostCalls}
 use Rattle.rules.specs.Setups.{withinSizes, setupBytes, givenRight, setupFrom}
-use Rattle.rules.specs.Calls.{Numbers, numbers, callWidth}
+use Rattle.rules.specs.Calls.{numbers, callWidth}
+use Rattle.rules.specs.declared.Numbers.{Numbers}
 use Rattle.rules.specs.declared.Setup.{Setup}
 use Rattle.lines.specs.Bytes.{same}
 use Rattle.lines.specs.Lines.{pieces, linesFrom, linesOf, fieldsOf}
 use Rattle.lines.specs.Decimals.{isNumber, numberOf}
 use Rattle.lines.specs.Shapes.{readAs, headerLine, accessLine, processLine, fileLine, callsLine, callLine}
-use Rattle.lines.specs.Readings.{refused, alone, withCalls, atStart, judge, judgeAll, readText, rightIn, bytesRead}
+use Rattle.lines.specs.Readings.{refused, alone, callsFollow, atStart, judge, judgeAll, readText, rightRead, bytesRead}
 use Rattle.lines.specs.Entries.{readAlone, reachedWith, readWithCalls, callsRead}
 use Rattle.lines.specs.declared.Reading.the-variants.{Read}
 
@@ -63,7 +64,7 @@ nineCalls =
 -- every definition that reading a text computes with
 unfoldable computes : Bool
 unfolding same pieces linesFrom linesOf fieldsOf isNumber numberOf readAs headerLine accessLine processLine fileLine callsLine
-    callLine atStart judge judgeAll readText rightIn bytesRead readAlone reachedWith readWithCalls callsRead withinSizes table
+    callLine atStart judge judgeAll readText rightRead bytesRead readAlone reachedWith readWithCalls callsRead withinSizes table
     givenRight setupFrom
 computes = true
 
@@ -92,7 +93,7 @@ unfolding computes
 q-further = refl
 
 -- a setup text with no call text lacks a line at its end
-pub q-lacks-calls : readText withCalls setupText ≡ refused 14 122
+pub q-lacks-calls : readText callsFollow setupText ≡ refused 14 122
 unfolding computes
 q-lacks-calls = refl
 
@@ -101,7 +102,7 @@ pub empty : readText alone ([]) ≡ refused 14 0
 unfolding computes
 empty = refl
 
-pub empty-with-calls : readText withCalls ([]) ≡ refused 14 0
+pub empty-with-calls : readText callsFollow ([]) ≡ refused 14 0
 unfolding computes
 empty-with-calls = refl
 
@@ -202,27 +203,27 @@ unfolding computes
 both-rights = refl
 
 -- x for a call that takes none: `store 1 1 1 1 1|process 0 0|file 0 0|calls 1|read 0 0 0|`
-pub extra-given : readText withCalls (115 ∷ 116 ∷ 111 ∷ 114 ∷ 101 ∷ 9 ∷ 49 ∷ 9 ∷ 49 ∷ 9 ∷ 49 ∷ 9 ∷ 49 ∷ 9 ∷ 49 ∷ 10 ∷ 112 ∷ 114 ∷ 111 ∷ 99 ∷ 101 ∷ 115 ∷ 115 ∷ 9 ∷ 48 ∷ 9 ∷ 48 ∷ 10 ∷ 102 ∷ 105 ∷ 108 ∷ 101 ∷ 9 ∷ 48 ∷ 9 ∷ 48 ∷ 10 ∷ 99 ∷ 97 ∷ 108 ∷ 108 ∷ 115 ∷ 9 ∷ 49 ∷ 10 ∷ 114 ∷ 101 ∷ 97 ∷ 100 ∷ 9 ∷ 48 ∷ 9 ∷ 48 ∷ 9 ∷ 48 ∷ 10 ∷ []) ≡ refused 14 45
+pub extra-given : readText callsFollow (115 ∷ 116 ∷ 111 ∷ 114 ∷ 101 ∷ 9 ∷ 49 ∷ 9 ∷ 49 ∷ 9 ∷ 49 ∷ 9 ∷ 49 ∷ 9 ∷ 49 ∷ 10 ∷ 112 ∷ 114 ∷ 111 ∷ 99 ∷ 101 ∷ 115 ∷ 115 ∷ 9 ∷ 48 ∷ 9 ∷ 48 ∷ 10 ∷ 102 ∷ 105 ∷ 108 ∷ 101 ∷ 9 ∷ 48 ∷ 9 ∷ 48 ∷ 10 ∷ 99 ∷ 97 ∷ 108 ∷ 108 ∷ 115 ∷ 9 ∷ 49 ∷ 10 ∷ 114 ∷ 101 ∷ 97 ∷ 100 ∷ 9 ∷ 48 ∷ 9 ∷ 48 ∷ 9 ∷ 48 ∷ 10 ∷ []) ≡ refused 14 45
 unfolding computes
 extra-given = refl
 
 -- no x for a call that takes one: `store 1 1 1 1 1|process 0 0|file 0 0|calls 1|write 0 0|`
-pub extra-missing : readText withCalls (115 ∷ 116 ∷ 111 ∷ 114 ∷ 101 ∷ 9 ∷ 49 ∷ 9 ∷ 49 ∷ 9 ∷ 49 ∷ 9 ∷ 49 ∷ 9 ∷ 49 ∷ 10 ∷ 112 ∷ 114 ∷ 111 ∷ 99 ∷ 101 ∷ 115 ∷ 115 ∷ 9 ∷ 48 ∷ 9 ∷ 48 ∷ 10 ∷ 102 ∷ 105 ∷ 108 ∷ 101 ∷ 9 ∷ 48 ∷ 9 ∷ 48 ∷ 10 ∷ 99 ∷ 97 ∷ 108 ∷ 108 ∷ 115 ∷ 9 ∷ 49 ∷ 10 ∷ 119 ∷ 114 ∷ 105 ∷ 116 ∷ 101 ∷ 9 ∷ 48 ∷ 9 ∷ 48 ∷ 10 ∷ []) ≡ refused 14 45
+pub extra-missing : readText callsFollow (115 ∷ 116 ∷ 111 ∷ 114 ∷ 101 ∷ 9 ∷ 49 ∷ 9 ∷ 49 ∷ 9 ∷ 49 ∷ 9 ∷ 49 ∷ 9 ∷ 49 ∷ 10 ∷ 112 ∷ 114 ∷ 111 ∷ 99 ∷ 101 ∷ 115 ∷ 115 ∷ 9 ∷ 48 ∷ 9 ∷ 48 ∷ 10 ∷ 102 ∷ 105 ∷ 108 ∷ 101 ∷ 9 ∷ 48 ∷ 9 ∷ 48 ∷ 10 ∷ 99 ∷ 97 ∷ 108 ∷ 108 ∷ 115 ∷ 9 ∷ 49 ∷ 10 ∷ 119 ∷ 114 ∷ 105 ∷ 116 ∷ 101 ∷ 9 ∷ 48 ∷ 9 ∷ 48 ∷ 10 ∷ []) ≡ refused 14 45
 unfolding computes
 extra-missing = refl
 
 -- a word that is no call's: `store 1 1 1 1 1|process 0 0|file 0 0|calls 1|read 0 0|READ 0 0|`
-pub no-word : readText withCalls (115 ∷ 116 ∷ 111 ∷ 114 ∷ 101 ∷ 9 ∷ 49 ∷ 9 ∷ 49 ∷ 9 ∷ 49 ∷ 9 ∷ 49 ∷ 9 ∷ 49 ∷ 10 ∷ 112 ∷ 114 ∷ 111 ∷ 99 ∷ 101 ∷ 115 ∷ 115 ∷ 9 ∷ 48 ∷ 9 ∷ 48 ∷ 10 ∷ 102 ∷ 105 ∷ 108 ∷ 101 ∷ 9 ∷ 48 ∷ 9 ∷ 48 ∷ 10 ∷ 99 ∷ 97 ∷ 108 ∷ 108 ∷ 115 ∷ 9 ∷ 49 ∷ 10 ∷ 114 ∷ 101 ∷ 97 ∷ 100 ∷ 9 ∷ 48 ∷ 9 ∷ 48 ∷ 10 ∷ 82 ∷ 69 ∷ 65 ∷ 68 ∷ 9 ∷ 48 ∷ 9 ∷ 48 ∷ 10 ∷ []) ≡ refused 14 54
+pub no-word : readText callsFollow (115 ∷ 116 ∷ 111 ∷ 114 ∷ 101 ∷ 9 ∷ 49 ∷ 9 ∷ 49 ∷ 9 ∷ 49 ∷ 9 ∷ 49 ∷ 9 ∷ 49 ∷ 10 ∷ 112 ∷ 114 ∷ 111 ∷ 99 ∷ 101 ∷ 115 ∷ 115 ∷ 9 ∷ 48 ∷ 9 ∷ 48 ∷ 10 ∷ 102 ∷ 105 ∷ 108 ∷ 101 ∷ 9 ∷ 48 ∷ 9 ∷ 48 ∷ 10 ∷ 99 ∷ 97 ∷ 108 ∷ 108 ∷ 115 ∷ 9 ∷ 49 ∷ 10 ∷ 114 ∷ 101 ∷ 97 ∷ 100 ∷ 9 ∷ 48 ∷ 9 ∷ 48 ∷ 10 ∷ 82 ∷ 69 ∷ 65 ∷ 68 ∷ 9 ∷ 48 ∷ 9 ∷ 48 ∷ 10 ∷ []) ≡ refused 14 54
 unfolding computes
 no-word = refl
 
 -- a call line without its LF: `store 1 1 1 1 1|process 0 0|file 0 0|calls 1|read 0 0|read 0 0`
-pub call-no-lf : readText withCalls (115 ∷ 116 ∷ 111 ∷ 114 ∷ 101 ∷ 9 ∷ 49 ∷ 9 ∷ 49 ∷ 9 ∷ 49 ∷ 9 ∷ 49 ∷ 9 ∷ 49 ∷ 10 ∷ 112 ∷ 114 ∷ 111 ∷ 99 ∷ 101 ∷ 115 ∷ 115 ∷ 9 ∷ 48 ∷ 9 ∷ 48 ∷ 10 ∷ 102 ∷ 105 ∷ 108 ∷ 101 ∷ 9 ∷ 48 ∷ 9 ∷ 48 ∷ 10 ∷ 99 ∷ 97 ∷ 108 ∷ 108 ∷ 115 ∷ 9 ∷ 49 ∷ 10 ∷ 114 ∷ 101 ∷ 97 ∷ 100 ∷ 9 ∷ 48 ∷ 9 ∷ 48 ∷ 10 ∷ 114 ∷ 101 ∷ 97 ∷ 100 ∷ 9 ∷ 48 ∷ 9 ∷ 48 ∷ []) ≡ refused 14 54
+pub call-no-lf : readText callsFollow (115 ∷ 116 ∷ 111 ∷ 114 ∷ 101 ∷ 9 ∷ 49 ∷ 9 ∷ 49 ∷ 9 ∷ 49 ∷ 9 ∷ 49 ∷ 9 ∷ 49 ∷ 10 ∷ 112 ∷ 114 ∷ 111 ∷ 99 ∷ 101 ∷ 115 ∷ 115 ∷ 9 ∷ 48 ∷ 9 ∷ 48 ∷ 10 ∷ 102 ∷ 105 ∷ 108 ∷ 101 ∷ 9 ∷ 48 ∷ 9 ∷ 48 ∷ 10 ∷ 99 ∷ 97 ∷ 108 ∷ 108 ∷ 115 ∷ 9 ∷ 49 ∷ 10 ∷ 114 ∷ 101 ∷ 97 ∷ 100 ∷ 9 ∷ 48 ∷ 9 ∷ 48 ∷ 10 ∷ 114 ∷ 101 ∷ 97 ∷ 100 ∷ 9 ∷ 48 ∷ 9 ∷ 48 ∷ []) ≡ refused 14 54
 unfolding computes
 call-no-lf = refl
 
 -- another number of the call text: `store 1 1 1 1 1|process 0 0|file 0 0|calls 2|`
-pub other-form : readText withCalls (115 ∷ 116 ∷ 111 ∷ 114 ∷ 101 ∷ 9 ∷ 49 ∷ 9 ∷ 49 ∷ 9 ∷ 49 ∷ 9 ∷ 49 ∷ 9 ∷ 49 ∷ 10 ∷ 112 ∷ 114 ∷ 111 ∷ 99 ∷ 101 ∷ 115 ∷ 115 ∷ 9 ∷ 48 ∷ 9 ∷ 48 ∷ 10 ∷ 102 ∷ 105 ∷ 108 ∷ 101 ∷ 9 ∷ 48 ∷ 9 ∷ 48 ∷ 10 ∷ 99 ∷ 97 ∷ 108 ∷ 108 ∷ 115 ∷ 9 ∷ 50 ∷ 10 ∷ []) ≡ refused 14 37
+pub other-form : readText callsFollow (115 ∷ 116 ∷ 111 ∷ 114 ∷ 101 ∷ 9 ∷ 49 ∷ 9 ∷ 49 ∷ 9 ∷ 49 ∷ 9 ∷ 49 ∷ 9 ∷ 49 ∷ 10 ∷ 112 ∷ 114 ∷ 111 ∷ 99 ∷ 101 ∷ 115 ∷ 115 ∷ 9 ∷ 48 ∷ 9 ∷ 48 ∷ 10 ∷ 102 ∷ 105 ∷ 108 ∷ 101 ∷ 9 ∷ 48 ∷ 9 ∷ 48 ∷ 10 ∷ 99 ∷ 97 ∷ 108 ∷ 108 ∷ 115 ∷ 9 ∷ 50 ∷ 10 ∷ []) ≡ refused 14 37
 unfolding computes
 other-form = refl
 

@@ -12,7 +12,7 @@ use lib.Dec.{ltb, leb, eqb}
 use Rattle.rules.specs.Sizes.{mostNumber}
 use Rattle.rules.proofs.Lists.{by-test}
 use Rattle.lines.specs.Bytes.{digit0, digit}
-use Rattle.lines.specs.Decimals.{ten, isDigit, areDigits, startsWell, valueAfter, valueOf, isNumber, numberOf, digitsWithin, digitsOf}
+use Rattle.lines.specs.Decimals.{ten, isDigit, areDigits, startsWell, valueAfter, fieldValue, isNumber, numberOf, digitsWithin, digitsOf}
 
 -- one digit more on the right
 pub valueAfter-more : (v : ℕ) (xs : List ℕ) (b : ℕ) → valueAfter v (xs ++ (b ∷ [])) ≡ valueAfter v xs * ten + (b - digit0)
@@ -35,20 +35,20 @@ isDigit-digit : (d : ℕ) → d < ten → isDigit (digit d) ≡ true
 isDigit-digit d l = isDigit-iff (digit d) .1 (omega arith, omega arith)
 
 -- bytes whose first is another than the digit 0
-leads : List ℕ → Bool
-leads [] = false
-leads (b ∷ rest) = not (eqb b digit0)
+notZeroFirst : List ℕ → Bool
+notZeroFirst [] = false
+notZeroFirst (b ∷ rest) = not (eqb b digit0)
 
-leads-more : (xs : List ℕ) (b : ℕ) → leads xs ≡ true → leads (xs ++ (b ∷ [])) ≡ true
-unfolding leads
-leads-more [] b h = absurd (false≢true h)
-leads-more (x ∷ xs) b h = h
+notZeroFirst-more : (xs : List ℕ) (b : ℕ) → notZeroFirst xs ≡ true → notZeroFirst (xs ++ (b ∷ [])) ≡ true
+unfolding notZeroFirst
+notZeroFirst-more [] b h = absurd (false≢true h)
+notZeroFirst-more (x ∷ xs) b h = h
 
-leads-well : (xs : List ℕ) → leads xs ≡ true → startsWell xs ≡ true
-unfolding leads
-leads-well [] h = h
-leads-well (x ∷ []) h = refl
-leads-well (x ∷ (y ∷ xs)) h = h
+notZeroFirst-well : (xs : List ℕ) → notZeroFirst xs ≡ true → startsWell xs ≡ true
+unfolding notZeroFirst
+notZeroFirst-well [] h = h
+notZeroFirst-well (x ∷ []) h = refl
+notZeroFirst-well (x ∷ (y ∷ xs)) h = h
 
 module _ (most n : ℕ) where
   -- the digits of a number below ten, and of a larger one
@@ -61,13 +61,13 @@ module _ (most n : ℕ) where
   within-large l = rw (le-ltb n ten l)
 
 -- what a number's digits are: they have its value, they are digits, and the first is no 0 where the number is none
-record Sound (n : ℕ) (xs : List ℕ) : Type 0 where
-  value : valueOf xs ≡ n
+record Writes (n : ℕ) (xs : List ℕ) : Type 0 where
+  value : fieldValue xs ≡ n
   digits : areDigits xs ≡ true
   starts : startsWell xs ≡ true
-  leading : 0 < n → leads xs ≡ true
+  leading : 0 < n → notZeroFirst xs ≡ true
 
-within-sound : (most n : ℕ) → n < most → Sound n (digitsWithin most n)
+within-sound : (most n : ℕ) → n < most → Writes n (digitsWithin most n)
 within-sound zero n l = absurd (omega arith)
 within-sound (suc most) n l =
     by-test (ltb n ten)
@@ -78,18 +78,18 @@ within-sound (suc most) n l =
       value = omega arith;
       digits = and-eq-true-iff (isDigit (digit n)) true .1 (isDigit-digit n k, refl);
       starts = refl;
-      leading = λ p. unfold leads in ap not (ne-eqb (digit n) digit0 (omega arith));
+      leading = λ p. unfold notZeroFirst in ap not (ne-eqb (digit n) digit0 (omega arith));
     }))
     (λ f.
     let k = ltb-false n ten f in
     let s = within-sound most (n / ten) (omega arith) in
     let front = digitsWithin most (n / ten) in
-    let led : leads (front ++ (digit (n % ten) ∷ [])) ≡ true = leads-more front (digit (n % ten)) (s .leading (omega arith)) in
+    let led : notZeroFirst (front ++ (digit (n % ten) ∷ [])) ≡ true = notZeroFirst-more front (digit (n % ten)) (s .leading (omega arith)) in
     rw (within-large most n k)
     (record {
       value = valueAfter-more 0 front (digit (n % ten)) ∙ rw (s .value) (omega arith);
       digits = areDigits-more front (digit (n % ten)) (s .digits) (isDigit-digit (n % ten) (omega arith));
-      starts = leads-well (front ++ (digit (n % ten) ∷ [])) led;
+      starts = notZeroFirst-well (front ++ (digit (n % ten) ∷ [])) led;
       leading = λ p. led;
     }))
 
@@ -133,7 +133,7 @@ first-value : (b : ℕ) → 0 * ten + (b - digit0) ≡ b - digit0
 first-value b = omega arith
 
 -- a field that starts well and is digits is the digits of its value
-pub digits-of-value : (field : List ℕ) → startsWell field ≡ true → areDigits field ≡ true → digitsOf (valueOf field) ≡ field
+pub digits-of-value : (field : List ℕ) → startsWell field ≡ true → areDigits field ≡ true → digitsOf (fieldValue field) ≡ field
 digits-of-value [] s h = absurd (false≢true s)
 digits-of-value (b ∷ []) s h =
     let (low, high) = isDigit-iff b .0 (and-eq-true-iff (isDigit b) true .0 h .0) in
@@ -155,13 +155,13 @@ numberOf-iff field n = (
   λ e.
       by-test (isNumber field)
       (λ t.
-      let (wd, small) = and-eq-true-iff (startsWell field && areDigits field) (leb (valueOf field) mostNumber) .0 t in
+      let (wd, small) = and-eq-true-iff (startsWell field && areDigits field) (leb (fieldValue field) mostNumber) .0 t in
       let (w, d) = and-eq-true-iff (startsWell field) (areDigits field) .0 wd in
-      let is : valueOf field ≡ n = cc (rw t at e) in
-      (sym (digits-of-value field w d) ∙ ap digitsOf is, rw is at (leb-true (valueOf field) mostNumber small)))
+      let is : fieldValue field ≡ n = cc (rw t at e) in
+      (sym (digits-of-value field w d) ∙ ap digitsOf is, rw is at (leb-true (fieldValue field) mostNumber small)))
       (λ f. absurd (never n (rw f at e))),
   λ h.
-      let s : Sound n (digitsOf n) = unfold digitsOf in within-sound (suc n) n (omega arith) in
+      let s : Writes n (digitsOf n) = unfold digitsOf in within-sound (suc n) n (omega arith) in
       rw (h .0, s .starts, s .digits, s .value, le-leb n mostNumber (h .1)),
 )
   where

@@ -2,24 +2,27 @@
 -- Assumes nothing.
 use Prim.Native.Nat.{ℕ, _*_, _<_, _≤_}
 use mathlib.Core.Path.{_≡_, refl, sym, _∙_, subst}
-use mathlib.Core.Bool.{true, false≢true}
+use mathlib.Core.Bool.{true}
 use mathlib.Core.List.{List, [], _∷_, _++_}
+use mathlib.Core.Option.{some}
 use native.Mathlib.Omega.{arith}
 use borrow.Author.Tests.{ltb-true, ltb-false, leb-false, lt-ltb, le-ltb}
 use lib.Dec.{ltb}
 use lib.ListN.{length, length-append}
 use Rattle.rules.specs.Sizes.{mostCalls}
 use Rattle.rules.specs.Setups.{accepted, blankSetup}
-use Rattle.rules.specs.Calls.{Numbers, Is32, callWidth}
-use Rattle.rules.proofs.Lists.{by-test, cond-holds}
+use Rattle.rules.specs.Calls.{Is32, callWidth}
+use Rattle.rules.specs.declared.Numbers.{Numbers}
+use Rattle.rules.specs.Refusals.{firstOf}
+use Rattle.rules.proofs.Lists.{by-test}
 use Rattle.rules.proofs.Refusals.{unmet-iff}
-use Rattle.lines.specs.Lines.{Line, fieldsOf}
-use Rattle.lines.specs.Shapes.{headerLine, accessLine, processLine, fileLine, callsLine, callLine}
-use Rattle.lines.specs.Readings.{Due, headerDue, accessDue, processDue, fileDue, callsDue, callDue, SoFar, atStart, Reached, sound, refused, headerOrder, afterHeader, accessOrder, afterAccess, processOrder, afterProcess, fileOrder, afterFile, afterCalls, callOrder, afterCall, judgeDue, judgeFurther, judgeProcess, Text, alone, withCalls, startsAccess, judge, complete, readText}
+use Rattle.lines.specs.Shapes.{callLine}
+use Rattle.lines.specs.Readings.{SoFar, atStart, Reached, sound, refused, callLineOrder, Text, alone, callsFollow, readText}
 use Rattle.lines.specs.Entries.{givenBy, callsBy, readAlone, reachedWith, readWithCalls, callsRead}
 use Rattle.lines.specs.declared.Reading.the-variants.{Read, Refused}
 use Rattle.lines.proofs.Shapes.{callLine-32}
-use Rattle.lines.proofs.Readings.{refused-sound, Kept, judged-keeps, read-keeps, read-complete, read-accepted}
+use Rattle.lines.proofs.Kept.{refused-sound, Keeps, read-keeps}
+use Rattle.lines.proofs.Readings.{read-accepted}
 
 -- each call is four 32-bit numbers
 abbrev pub Each32 : List Numbers → Type 0
@@ -35,84 +38,35 @@ pub record CallsFit (ns : List Numbers) : Type 0 where
   pub few : length ns ≤ mostCalls
   pub each : Each32 ns
 
--- no call is read before the calls' own lines
-abbrev CallsAt : Due → List Numbers → Type 0
-CallsAt headerDue ns = ns ≡ []
-CallsAt accessDue ns = ns ≡ []
-CallsAt processDue ns = ns ≡ []
-CallsAt fileDue ns = ns ≡ []
-CallsAt callsDue ns = ns ≡ []
-CallsAt callDue ns = CallsFit ns
+no-calls : CallsFit []
+no-calls = record { few = omega arith; each = tt }
 
-abbrev HasCalls : SoFar → Type 0
-HasCalls s = CallsAt (s .due) (s .calls)
-
-no-calls : (ns : List Numbers) → ns ≡ [] → CallsFit ns
-no-calls ns e = rw e (record { few = omega arith; each = tt })
-
-process-calls : (s : SoFar) (at : ℕ) (fields : List (List ℕ)) → s .calls ≡ [] → Kept HasCalls (judgeProcess s at fields)
-process-calls s at fields h =
-    judged-keeps HasCalls at (processLine fields) (processOrder s) (afterProcess s)
-    (λ p e z.
-    cond-holds (λ (d : Due). CallsAt d (s .calls)) (ltb (length (s .desk ++ (p .desk ∷ []))) (s .counts .processes)) (λ t. h) (λ f. h))
-
-further-calls : (t : Text) (s : SoFar) (at : ℕ) (fields : List (List ℕ)) → s .calls ≡ [] → Kept HasCalls (judgeFurther t s at fields)
-further-calls alone s at fields h = tt
-further-calls withCalls s at fields h =
-    judged-keeps HasCalls at (callsLine fields) (λ ns. []) (λ ns. afterCalls s) (λ ns e z. no-calls (s .calls) h)
-
-due-calls : (t : Text) (d : Due) (s : SoFar) (at : ℕ) (fields : List (List ℕ)) → CallsAt d (s .calls) → Kept HasCalls (judgeDue t d s at fields)
-due-calls t headerDue s at fields h = judged-keeps HasCalls at (headerLine fields) headerOrder (afterHeader s) (λ x e z. h)
-due-calls t accessDue s at fields h =
-    cond-holds (Kept HasCalls) (startsAccess fields)
-    (λ y. judged-keeps HasCalls at (accessLine fields) (accessOrder s) (afterAccess s) (λ x e z. h)) (λ n. process-calls s at fields h)
-due-calls t processDue s at fields h = process-calls s at fields h
-due-calls t fileDue s at fields h =
-    judged-keeps HasCalls at (fileLine fields) (fileOrder s) (afterFile s)
-    (λ f e z.
-    cond-holds (λ (d : Due). CallsAt d (s .calls)) (ltb (length (s .class ++ (f .class ∷ []))) (s .counts .files)) (λ t. h) (λ g. h))
-due-calls t callsDue s at fields h = further-calls t s at fields h
-due-calls t callDue s at fields h =
-    judged-keeps HasCalls at (callLine fields) (λ n. callOrder s) (afterCall s)
-    (λ n e z.
-    let room = leb-false mostCalls (length (s .calls)) (unmet-iff (callOrder s) (omega arith) .0 z .0) in
+one-call-more : (s : SoFar) (fields : List (List ℕ)) (n : Numbers) → callLine fields ≡ some n → firstOf (callLineOrder s) ≡ 0 → CallsFit (s .calls)
+    → CallsFit (s .calls ++ (n ∷ []))
+one-call-more s fields n e z h =
+    let room = leb-false mostCalls (length (s .calls)) (unmet-iff (callLineOrder s) (omega arith) .0 z .0) in
     record {
       few = omega (arith, length-append (s .calls) (n ∷ []));
       each = each-more (s .calls) n (h .each) (callLine-32 fields n e);
-    })
+    }
 
-judge-calls : (t : Text) (s : SoFar) (l : Line) → HasCalls s → Kept HasCalls (judge t s l)
-unfolding judge
-judge-calls t s l h =
-    cond-holds (Kept HasCalls) (l .whole) (λ w. due-calls t (s .due) s (l .at) (fieldsOf (l .bytes)) h) (λ n. tt)
-
-read-calls : (t : Text) (text : List ℕ) (s : SoFar) → readText t text ≡ sound s → HasCalls s
+calls-fit : Keeps (λ d s. CallsFit (s .calls))
 unfolding atStart
-read-calls t text s e = read-keeps t HasCalls refl (judge-calls t) text s e
-
-complete-alone : (d : Due) (ns : List Numbers) → complete alone d ≡ true → CallsAt d ns → ns ≡ []
-complete-alone headerDue ns c h = h
-complete-alone accessDue ns c h = h
-complete-alone processDue ns c h = h
-complete-alone fileDue ns c h = h
-complete-alone callsDue ns c h = h
-complete-alone callDue ns c h = absurd (false≢true c)
-
-at-fit : (d : Due) (ns : List Numbers) → CallsAt d ns → CallsFit ns
-at-fit headerDue ns h = no-calls ns h
-at-fit accessDue ns h = no-calls ns h
-at-fit processDue ns h = no-calls ns h
-at-fit fileDue ns h = no-calls ns h
-at-fit callsDue ns h = no-calls ns h
-at-fit callDue ns h = h
-
--- a setup text read alone has no call
-pub alone-no-calls : (text : List ℕ) (s : SoFar) → readText alone text ≡ sound s → s .calls ≡ []
-alone-no-calls text s e = complete-alone (s .due) (s .calls) (read-complete alone text s e) (read-calls alone text s e)
+calls-fit =
+    record {
+      start = no-calls;
+      header = λ h z. no-calls;
+      access = λ s fields a e z h. h;
+      no-access = λ s h. h;
+      process = λ s p z h. h;
+      file = λ s f z h. h;
+      calls = λ s h. no-calls;
+      call = one-call-more;
+    }
 
 -- the calls of a text that is read are at most 1,024, each of four 32-bit numbers
 pub read-calls-fit : (t : Text) (text : List ℕ) (s : SoFar) → readText t text ≡ sound s → CallsFit (s .calls)
-read-calls-fit t text s e = at-fit (s .due) (s .calls) (read-calls t text s e)
+read-calls-fit t text s e = read-keeps calls-fit t text s e
 
 module _ (text : List ℕ) (room : ℕ) where
   -- "Text with calls: 11, then its lines"
@@ -120,7 +74,7 @@ module _ (text : List ℕ) (room : ℕ) where
   unfolding reachedWith
   reached-no-room l = rw (lt-ltb room (mostCalls * callWidth) l)
 
-  pub reached-room : mostCalls * callWidth ≤ room → reachedWith text room ≡ readText withCalls text
+  pub reached-room : mostCalls * callWidth ≤ room → reachedWith text room ≡ readText callsFollow text
   unfolding reachedWith
   reached-room l = rw (le-ltb room (mostCalls * callWidth) l)
 
@@ -152,7 +106,7 @@ unfolding readAlone
 alone-accepted text n e = given-accepted-by alone text (readText alone text) n (λ s q. q) e
 
 -- and so is that of one that is read with its calls
-with-room : (text : List ℕ) (room : ℕ) (s : SoFar) → reachedWith text room ≡ sound s → readText withCalls text ≡ sound s
+with-room : (text : List ℕ) (room : ℕ) (s : SoFar) → reachedWith text room ≡ sound s → readText callsFollow text ≡ sound s
 with-room text room s q =
     by-test (ltb room (mostCalls * callWidth))
     (λ t. absurd (refused-sound (sym (reached-no-room text room (ltb-true room (mostCalls * callWidth) t)) ∙ q)))
@@ -160,7 +114,7 @@ with-room text room s q =
 
 pub with-calls-accepted : (text : List ℕ) (room n : ℕ) → readWithCalls text room .reading ≡ Read n → accepted (readWithCalls text room .setup) ≡ true
 unfolding readWithCalls
-with-calls-accepted text room n e = given-accepted-by withCalls text (reachedWith text room) n (with-room text room) e
+with-calls-accepted text room n e = given-accepted-by callsFollow text (reachedWith text room) n (with-room text room) e
 
 -- the calls for the lent run fit it, read or refused, and where the text is read they are as many as it tells
 pub callsRead-fit : (text : List ℕ) (room : ℕ) → CallsFit (callsRead text room)
@@ -168,8 +122,8 @@ unfolding callsRead
 callsRead-fit text room = by (reachedWith text room) refl
   where
     by : (x : Reached) → reachedWith text room ≡ x → CallsFit (callsBy x)
-    by (sound s) q = read-calls-fit withCalls text s (with-room text room s q)
-    by (refused r at) q = no-calls [] refl
+    by (sound s) q = read-calls-fit callsFollow text s (with-room text room s q)
+    by (refused r at) q = no-calls
 
 pub callsRead-number : (text : List ℕ) (room n : ℕ) → readWithCalls text room .reading ≡ Read n → length (callsRead text room) ≡ n
 unfolding readWithCalls callsRead

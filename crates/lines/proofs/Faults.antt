@@ -9,14 +9,14 @@ use mathlib.Core.Option.{Option, some, none}
 use borrow.Author.Tests.{le-leb}
 use lib.ListN.{length}
 use Rattle.rules.specs.Sizes.{mostCalls}
-use Rattle.rules.specs.Calls.{Numbers}
+use Rattle.rules.specs.declared.Numbers.{Numbers}
 use Rattle.rules.specs.Refusals.{Refusal, firstOf}
 use Rattle.rules.proofs.Lists.{by-test, cond-holds}
 use Rattle.lines.specs.Lines.{Line, linesOf, fieldsOf}
 use Rattle.lines.specs.Shapes.{headerLine, accessLine, processLine, fileLine, callsLine, callLine}
-use Rattle.lines.specs.Readings.{Due, headerDue, accessDue, processDue, fileDue, callsDue, callDue, SoFar, atStart, Reached, sound, refused, breaksRules, judged, headerOrder, afterHeader, accessOrder, afterAccess, processOrder, afterProcess, fileOrder, afterFile, afterCalls, callOrder, afterCall, Text, alone, withCalls, startsAccess, judgeFurther, judgeDue, judge, judgeNext, judgeAll, complete, atEnd, readText}
+use Rattle.lines.specs.Readings.{Due, headerDue, accessDue, processDue, fileDue, callsDue, callDue, SoFar, atStart, Reached, sound, refused, breaksRules, judged, headerOrder, afterHeader, accessOrder, afterAccess, processOrder, afterProcess, fileOrder, afterFile, afterCalls, callLineOrder, afterCall, Text, alone, callsFollow, startsAccess, judgeFurther, judgeDue, judge, judgeNext, judgeAll, complete, atEnd, readText}
 use Rattle.lines.proofs.Lines.{textOf, line-offset}
-use Rattle.lines.proofs.Readings.{unless-holds, refused-sound}
+use Rattle.lines.proofs.Kept.{unless-holds, refused-sound}
 
 -- a refusal stands at an offset
 abbrev At : ℕ → Reached → Type 0
@@ -30,17 +30,17 @@ judged-at at (some x) order next =
 
 further-at : (t : Text) (s : SoFar) (at : ℕ) (fields : List (List ℕ)) → At at (judgeFurther t s at fields)
 further-at alone s at fields = refl
-further-at withCalls s at fields = judged-at at (callsLine fields) (λ ns. []) (λ ns. afterCalls s)
+further-at callsFollow s at fields = judged-at at (callsLine fields) (λ ns. []) (λ ns. afterCalls s)
 
 due-at : (t : Text) (d : Due) (s : SoFar) (at : ℕ) (fields : List (List ℕ)) → At at (judgeDue t d s at fields)
-due-at t headerDue s at fields = judged-at at (headerLine fields) headerOrder (afterHeader s)
+due-at t headerDue s at fields = judged-at at (headerLine fields) headerOrder afterHeader
 due-at t accessDue s at fields =
     cond-holds (At at) (startsAccess fields) (λ y. judged-at at (accessLine fields) (accessOrder s) (afterAccess s))
     (λ n. judged-at at (processLine fields) (processOrder s) (afterProcess s))
 due-at t processDue s at fields = judged-at at (processLine fields) (processOrder s) (afterProcess s)
 due-at t fileDue s at fields = judged-at at (fileLine fields) (fileOrder s) (afterFile s)
 due-at t callsDue s at fields = further-at t s at fields
-due-at t callDue s at fields = judged-at at (callLine fields) (λ n. callOrder s) (afterCall s)
+due-at t callDue s at fields = judged-at at (callLine fields) (λ n. callLineOrder s) (afterCall s)
 
 judge-at : (t : Text) (s : SoFar) (l : Line) → At (l .at) (judge t s l)
 unfolding judge
@@ -158,18 +158,14 @@ pub missing-refused : (t : Text) (text : List ℕ) (r at : ℕ) → Missing t te
 unfolding readText
 missing-refused t text r at m = rw (m .all-sound, m .lacks, m .number, m .offset)
 
--- a line without its LF is 14 whatever is due
-pub part-refused : (t : Text) (s : SoFar) (l : Line) → l .whole ≡ false → judge t s l ≡ refused breaksRules (l .at)
-unfolding judge
-part-refused t s l e = rw e
-
 -- "A setup text read alone ends there; a further line is 14", whatever it holds
 pub further-refused : (s : SoFar) (l : Line) → s .due ≡ callsDue → judge alone s l ≡ refused breaksRules (l .at)
 unfolding judge
 further-refused s l e = rw e (cond-holds (λ (x : Reached). x ≡ refused breaksRules (l .at)) (l .whole) (λ w. refl) (λ n. refl))
 
 -- "A call line past the 1,024th is 14", whatever it holds
-past-most : (s : SoFar) (at : ℕ) (call : Option Numbers) → mostCalls ≤ length (s .calls) → judged at call (λ n. callOrder s) (afterCall s) ≡ refused breaksRules at
+past-most : (s : SoFar) (at : ℕ) (call : Option Numbers) → mostCalls ≤ length (s .calls)
+    → judged at call (λ n. callLineOrder s) (afterCall s) ≡ refused breaksRules at
 past-most s at none h = refl
 past-most s at (some n) h = rw (le-leb mostCalls (length (s .calls)) h)
 

@@ -1,4 +1,4 @@
--- Laws of lines and fields: what bytes are cut into is the bytes again when joined, and nothing else that holds no mark is.
+-- Laws of lines and fields: what bytes are cut into is the bytes again when joined, and nothing else that holds no stop is.
 -- Assumes nothing.
 use Prim.Native.Nat.{ℕ, _+_}
 use mathlib.Core.Path.{_≡_, refl, ap, sym, _∙_, subst}
@@ -12,46 +12,46 @@ use Rattle.rules.proofs.Lists.{by-test}
 use Rattle.lines.specs.Bytes.{lineFeed, tab}
 use Rattle.lines.specs.Lines.{onto, pieces, joined, Line, line, lastLine, linesFrom, linesOf, fieldsOf}
 
--- the mark is none of the bytes
-abbrev pub without : ℕ → List ℕ → Bool
-without mark [] = true
-without mark (b ∷ rest) = not (eqb b mark) && without mark rest
+-- the stop is none of the bytes
+abbrev pub holdsNo : ℕ → List ℕ → Bool
+holdsNo stop [] = true
+holdsNo stop (b ∷ rest) = not (eqb b stop) && holdsNo stop rest
 
 -- and in none of the pieces
-abbrev pub allWithout : ℕ → List (List ℕ) → Bool
-allWithout mark [] = true
-allWithout mark (piece ∷ more) = without mark piece && allWithout mark more
+abbrev pub noneHolds : ℕ → List (List ℕ) → Bool
+noneHolds stop [] = true
+noneHolds stop (piece ∷ more) = holdsNo stop piece && noneHolds stop more
 
 -- a byte before the first piece is a byte before what they join to
-joined-onto : (mark b : ℕ) (ps : List (List ℕ)) → joined mark (onto b ps) ≡ b ∷ joined mark ps
+joined-onto : (stop b : ℕ) (ps : List (List ℕ)) → joined stop (onto b ps) ≡ b ∷ joined stop ps
 unfolding joined
-joined-onto mark b [] = refl
-joined-onto mark b (p ∷ []) = refl
-joined-onto mark b (p ∷ (q ∷ more)) = refl
+joined-onto stop b [] = refl
+joined-onto stop b (p ∷ []) = refl
+joined-onto stop b (p ∷ (q ∷ more)) = refl
 
 -- bytes have a first piece
-pub first-piece : (mark : ℕ) (bytes : List ℕ) → (p : List ℕ) × (more : List (List ℕ)) × (pieces mark bytes ≡ p ∷ more)
+pub first-piece : (stop : ℕ) (bytes : List ℕ) → (p : List ℕ) × (more : List (List ℕ)) × (pieces stop bytes ≡ p ∷ more)
 unfolding pieces
-first-piece mark [] = ([], [], refl)
-first-piece mark (b ∷ rest) =
-    let (p, more, e) = first-piece mark rest in
-    by-test (eqb b mark) (λ t. ([], pieces mark rest, rw t)) (λ f. (b ∷ p, more, rw (f, e)))
+first-piece stop [] = ([], [], refl)
+first-piece stop (b ∷ rest) =
+    let (p, more, e) = first-piece stop rest in
+    by-test (eqb b stop) (λ t. ([], pieces stop rest, rw t)) (λ f. (b ∷ p, more, rw (f, e)))
 
--- a first piece that is empty is a mark before what the others join to, where there are others
-joined-empty : (mark : ℕ) (ps : List (List ℕ)) (p : List ℕ) (more : List (List ℕ)) → ps ≡ p ∷ more → joined mark ([] ∷ ps) ≡ mark ∷ joined mark ps
+-- a first piece that is empty is a stop before what the others join to, where there are others
+joined-empty : (stop : ℕ) (ps : List (List ℕ)) (p : List ℕ) (more : List (List ℕ)) → ps ≡ p ∷ more → joined stop ([] ∷ ps) ≡ stop ∷ joined stop ps
 unfolding joined
-joined-empty mark ps p more e = rw e
+joined-empty stop ps p more e = rw e
 
 -- what bytes are cut into is the bytes again when joined
-pub pieces-joined : (mark : ℕ) (bytes : List ℕ) → joined mark (pieces mark bytes) ≡ bytes
+pub pieces-joined : (stop : ℕ) (bytes : List ℕ) → joined stop (pieces stop bytes) ≡ bytes
 unfolding pieces
-pieces-joined mark [] = unfold joined in refl
-pieces-joined mark (b ∷ rest) =
-    let (p, more, e) = first-piece mark rest in
-    by-test (eqb b mark)
+pieces-joined stop [] = unfold joined in refl
+pieces-joined stop (b ∷ rest) =
+    let (p, more, e) = first-piece stop rest in
+    by-test (eqb b stop)
     (λ t.
-    rw t (joined-empty mark (pieces mark rest) p more e ∙ cc (eqb-true b mark t, pieces-joined mark rest)))
-    (λ f. rw f (joined-onto mark b (pieces mark rest) ∙ cc (pieces-joined mark rest)))
+    rw t (joined-empty stop (pieces stop rest) p more e ∙ cc (eqb-true b stop t, pieces-joined stop rest)))
+    (λ f. rw f (joined-onto stop b (pieces stop rest) ∙ cc (pieces-joined stop rest)))
 
 -- a line's bytes with its LF, if that is there, and those of several lines
 abbrev pub ending : Bool → List ℕ
@@ -79,58 +79,58 @@ pub line-is-fields : (bytes : List ℕ) → joined tab (fieldsOf bytes) ≡ byte
 unfolding fieldsOf
 line-is-fields bytes = pieces-joined tab bytes
 
--- bytes without the mark are one piece, and those before a mark are the first
-pub pieces-last : (mark : ℕ) (bytes : List ℕ) → without mark bytes ≡ true → pieces mark bytes ≡ bytes ∷ []
+-- bytes without the stop are one piece, and those before a stop are the first
+pub pieces-last : (stop : ℕ) (bytes : List ℕ) → holdsNo stop bytes ≡ true → pieces stop bytes ≡ bytes ∷ []
 unfolding pieces
-pieces-last mark [] h = refl
-pieces-last mark (b ∷ rest) h =
-    let (n, w) = and-eq-true-iff (not (eqb b mark)) (without mark rest) .0 h in
-    rw (not-true (eqb b mark) n, pieces-last mark rest w)
+pieces-last stop [] h = refl
+pieces-last stop (b ∷ rest) h =
+    let (n, w) = and-eq-true-iff (not (eqb b stop)) (holdsNo stop rest) .0 h in
+    rw (not-true (eqb b stop) n, pieces-last stop rest w)
 
-pub pieces-first : (mark : ℕ) (bytes rest : List ℕ) → without mark bytes ≡ true → pieces mark (bytes ++ (mark ∷ rest)) ≡ bytes ∷ pieces mark rest
+pub pieces-first : (stop : ℕ) (bytes rest : List ℕ) → holdsNo stop bytes ≡ true → pieces stop (bytes ++ (stop ∷ rest)) ≡ bytes ∷ pieces stop rest
 unfolding pieces
-pieces-first mark [] rest h = rw (eq-eqb mark mark refl)
-pieces-first mark (b ∷ bytes) rest h =
-    let (n, w) = and-eq-true-iff (not (eqb b mark)) (without mark bytes) .0 h in
-    rw (not-true (eqb b mark) n, pieces-first mark bytes rest w)
+pieces-first stop [] rest h = rw (eq-eqb stop stop refl)
+pieces-first stop (b ∷ bytes) rest h =
+    let (n, w) = and-eq-true-iff (not (eqb b stop)) (holdsNo stop bytes) .0 h in
+    rw (not-true (eqb b stop) n, pieces-first stop bytes rest w)
 
--- no piece holds the mark
-without-onto : (mark b : ℕ) (ps : List (List ℕ)) → eqb b mark ≡ false → allWithout mark ps ≡ true → allWithout mark (onto b ps) ≡ true
-without-onto mark b [] f h = rw f
-without-onto mark b (p ∷ more) f h = rw (f, h)
+-- no piece holds the stop
+without-onto : (stop b : ℕ) (ps : List (List ℕ)) → eqb b stop ≡ false → noneHolds stop ps ≡ true → noneHolds stop (onto b ps) ≡ true
+without-onto stop b [] f h = rw f
+without-onto stop b (p ∷ more) f h = rw (f, h)
 
-pub pieces-without : (mark : ℕ) (bytes : List ℕ) → allWithout mark (pieces mark bytes) ≡ true
+pub pieces-without : (stop : ℕ) (bytes : List ℕ) → noneHolds stop (pieces stop bytes) ≡ true
 unfolding pieces
-pieces-without mark [] = refl
-pieces-without mark (b ∷ rest) =
-    by-test (eqb b mark) (λ t. rw t (pieces-without mark rest)) (λ f. rw f (without-onto mark b (pieces mark rest) f (pieces-without mark rest)))
+pieces-without stop [] = refl
+pieces-without stop (b ∷ rest) =
+    by-test (eqb b stop) (λ t. rw t (pieces-without stop rest)) (λ f. rw f (without-onto stop b (pieces stop rest) f (pieces-without stop rest)))
 
--- pieces that hold no mark are what they join to is cut into
-pub pieces-of-joined : (mark : ℕ) (p : List ℕ) (more : List (List ℕ)) → allWithout mark (p ∷ more) ≡ true → pieces mark (joined mark (p ∷ more)) ≡ p ∷ more
+-- pieces that hold no stop are what they join to is cut into
+pub pieces-of-joined : (stop : ℕ) (p : List ℕ) (more : List (List ℕ)) → noneHolds stop (p ∷ more) ≡ true → pieces stop (joined stop (p ∷ more)) ≡ p ∷ more
 unfolding joined
-pieces-of-joined mark p [] h = pieces-last mark p (and-eq-true-iff (without mark p) true .0 h .0)
-pieces-of-joined mark p (q ∷ more) h =
-    let (w, v) = and-eq-true-iff (without mark p) (allWithout mark (q ∷ more)) .0 h in
-    pieces-first mark p (joined mark (q ∷ more)) w ∙ cc (pieces-of-joined mark q more v)
+pieces-of-joined stop p [] h = pieces-last stop p (and-eq-true-iff (holdsNo stop p) true .0 h .0)
+pieces-of-joined stop p (q ∷ more) h =
+    let (w, v) = and-eq-true-iff (holdsNo stop p) (noneHolds stop (q ∷ more)) .0 h in
+    pieces-first stop p (joined stop (q ∷ more)) w ∙ cc (pieces-of-joined stop q more v)
 
 -- no field holds a tab, and fields that hold none are those of the line that they join to
-pub fields-without : (bytes : List ℕ) → allWithout tab (fieldsOf bytes) ≡ true
+pub fields-without : (bytes : List ℕ) → noneHolds tab (fieldsOf bytes) ≡ true
 unfolding fieldsOf
 fields-without bytes = pieces-without tab bytes
 
-pub fields-of-joined : (field : List ℕ) (more : List (List ℕ)) → allWithout tab (field ∷ more) ≡ true → fieldsOf (joined tab (field ∷ more)) ≡ field ∷ more
+pub fields-of-joined : (field : List ℕ) (more : List (List ℕ)) → noneHolds tab (field ∷ more) ≡ true → fieldsOf (joined tab (field ∷ more)) ≡ field ∷ more
 unfolding fieldsOf
 fields-of-joined field more h = pieces-of-joined tab field more h
 
 -- the lines of the bytes from an offset on: the first goes as far as its LF, or to the end
-pub lines-first : (at : ℕ) (bytes rest : List ℕ) → without lineFeed bytes ≡ true
+pub lines-first : (at : ℕ) (bytes rest : List ℕ) → holdsNo lineFeed bytes ≡ true
     → linesFrom at (pieces lineFeed (bytes ++ (lineFeed ∷ rest))) ≡ line at bytes true ∷ linesFrom (at + length bytes + 1) (pieces lineFeed rest)
 unfolding linesFrom
 lines-first at bytes rest h =
     let (p, more, e) = first-piece lineFeed rest in
     rw (pieces-first lineFeed bytes rest h, e)
 
-pub lines-last : (at : ℕ) (bytes : List ℕ) → without lineFeed bytes ≡ true → linesFrom at (pieces lineFeed bytes) ≡ lastLine at bytes
+pub lines-last : (at : ℕ) (bytes : List ℕ) → holdsNo lineFeed bytes ≡ true → linesFrom at (pieces lineFeed bytes) ≡ lastLine at bytes
 unfolding linesFrom
 lines-last at bytes h = rw (pieces-last lineFeed bytes h)
 
@@ -162,16 +162,16 @@ line-offset text before l after e =
 -- lines as a text is cut into: none holds an LF, each is whole but what may follow the last LF, which is not empty
 pub data Cut : List Line → Type 0 where
   cut-none : Cut []
-  cut-last : {at b : ℕ} {bytes : List ℕ} → without lineFeed (b ∷ bytes) ≡ true → Cut (line at (b ∷ bytes) false ∷ [])
-  cut-line : {at : ℕ} {bytes : List ℕ} {lines : List Line} → without lineFeed bytes ≡ true → Cut lines → Cut (line at bytes true ∷ lines)
+  cut-last : {at b : ℕ} {bytes : List ℕ} → holdsNo lineFeed (b ∷ bytes) ≡ true → Cut (line at (b ∷ bytes) false ∷ [])
+  cut-line : {at : ℕ} {bytes : List ℕ} {lines : List Line} → holdsNo lineFeed bytes ≡ true → Cut lines → Cut (line at bytes true ∷ lines)
 
-cut-linesFrom : (at : ℕ) (ps : List (List ℕ)) → allWithout lineFeed ps ≡ true → Cut (linesFrom at ps)
+cut-linesFrom : (at : ℕ) (ps : List (List ℕ)) → noneHolds lineFeed ps ≡ true → Cut (linesFrom at ps)
 unfolding linesFrom
 cut-linesFrom at [] h = cut-none
 cut-linesFrom at ([] ∷ []) h = cut-none
-cut-linesFrom at ((b ∷ bytes) ∷ []) h = cut-last (and-eq-true-iff (without lineFeed (b ∷ bytes)) true .0 h .0)
+cut-linesFrom at ((b ∷ bytes) ∷ []) h = cut-last (and-eq-true-iff (holdsNo lineFeed (b ∷ bytes)) true .0 h .0)
 cut-linesFrom at (p ∷ (q ∷ more)) h =
-    let (w, v) = and-eq-true-iff (without lineFeed p) (allWithout lineFeed (q ∷ more)) .0 h in
+    let (w, v) = and-eq-true-iff (holdsNo lineFeed p) (noneHolds lineFeed (q ∷ more)) .0 h in
     cut-line w (cut-linesFrom (at + length p + 1) (q ∷ more) v)
 
 pub lines-cut : (text : List ℕ) → Cut (linesOf text)

@@ -13,10 +13,9 @@ use Rattle.rules.specs.Setups.{rightOf, givenRight, setupFrom}
 use Rattle.rules.proofs.Lists.{by-test, cond-holds}
 use Rattle.rules.proofs.Sizes.{getD-table}
 use Rattle.rules.proofs.Refusals.{unmet-iff}
-use Rattle.lines.specs.Lines.{Line, fieldsOf}
-use Rattle.lines.specs.Shapes.{Access, headerLine, accessLine, processLine, fileLine, callsLine, callLine}
-use Rattle.lines.specs.Readings.{Due, headerDue, accessDue, processDue, fileDue, callsDue, callDue, SoFar, atStart, sound, headerOrder, afterHeader, rises, accessOrder, afterAccess, processOrder, afterProcess, fileOrder, afterFile, afterCalls, callOrder, afterCall, judgeProcess, Text, alone, withCalls, startsAccess, judgeFurther, judgeDue, judge, readText, rightIn, bytesRead}
-use Rattle.lines.proofs.Readings.{Kept, judged-keeps, read-keeps}
+use Rattle.lines.specs.Shapes.{Access}
+use Rattle.lines.specs.Readings.{SoFar, atStart, sound, rises, accessOrder, Text, readText, rightRead, bytesRead}
+use Rattle.lines.proofs.Kept.{Keeps, read-keeps}
 
 -- an access line comes before another: "by desk, then class"
 pub data Before (a b : Access) : Type 0 where
@@ -72,14 +71,14 @@ pair-apart a b (by-desk h) = rw (ne-eqb (b .desk) (a .desk) (omega arith))
 pair-apart a b (by-class e h) = rw (ne-eqb (b .class) (a .class) (omega arith)) (and-false (eqb (b .desk) (a .desk)))
 
 -- the right of a pair is that of its access line
-pub right-of-line : (lines : List Access) (a : Access) → Risen lines → Among a lines → rightIn lines (a .desk) (a .class) ≡ a .right
-unfolding rightIn
+pub right-of-line : (lines : List Access) (a : Access) → Risen lines → Among a lines → rightRead lines (a .desk) (a .class) ≡ a .right
+unfolding rightRead
 right-of-line (b ∷ rest) a h here = rw (eq-eqb (a .desk) (a .desk) refl, eq-eqb (a .class) (a .class) refl)
 right-of-line (b ∷ rest) a h (there m) = rw (pair-apart a b (among-before rest m (h .0))) (right-of-line rest a (h .1) m)
 
 -- "with absent pairs meaning none"
-pub right-absent : (lines : List Access) (d t : ℕ) → ((a : Access) → Among a lines → a .desk ≡ d → a .class ≡ t → ⊥) → rightIn lines d t ≡ 0
-unfolding rightIn
+pub right-absent : (lines : List Access) (d t : ℕ) → ((a : Access) → Among a lines → a .desk ≡ d → a .class ≡ t → ⊥) → rightRead lines d t ≡ 0
+unfolding rightRead
 right-absent [] d t h = refl
 right-absent (b ∷ rest) d t h =
     cond-holds (λ (r : ℕ). r ≡ 0) (eqb (b .desk) d && eqb (b .class) t)
@@ -90,48 +89,32 @@ right-absent (b ∷ rest) d t h =
 
 -- and it is the right of the setup that is read
 pub read-right : (s : SoFar) (d t : ℕ) → s .counts .desks ≤ mostDesks → s .counts .classes ≤ mostClasses → d < s .counts .desks → t < s .counts .classes
-    → rightOf (setupFrom (bytesRead s)) d t ≡ rightIn (s .access) d t
+    → rightOf (setupFrom (bytesRead s)) d t ≡ rightRead (s .access) d t
 unfolding setupFrom bytesRead givenRight
 read-right s d t md mt k l =
     let c = s .counts .classes in
-    let rights : ℕ → ℕ = λ i. rightIn (s .access) (i / c) (i % c) in
+    let rights : ℕ → ℕ = λ i. rightRead (s .access) (i / c) (i % c) in
     let own : List ℕ = table (s .counts .desks * c) rights in
     let small : t < mostClasses = omega arith in
     getD-table mostRights (λ i. givenRight own c (i / mostClasses) (i % mostClasses)) (d * mostClasses + t) 0 (omega arith)
     ∙ rw (digits-div d small, digits-mod d small, lt-ltb t c l, getD-table (s .counts .desks * c) rights (d * c + t) 0 (digits-lt k l), digits-div d l, digits-mod d l)
 
-HasRisen : SoFar → Type 0
-HasRisen s = Risen (s .access)
-
-process-risen : (s : SoFar) (at : ℕ) (fields : List (List ℕ)) → HasRisen s → Kept HasRisen (judgeProcess s at fields)
-unfolding HasRisen
-process-risen s at fields h = judged-keeps HasRisen at (processLine fields) (processOrder s) (afterProcess s) (λ p e z. h)
-
-further-risen : (t : Text) (s : SoFar) (at : ℕ) (fields : List (List ℕ)) → HasRisen s → Kept HasRisen (judgeFurther t s at fields)
-unfolding HasRisen
-further-risen alone s at fields h = tt
-further-risen withCalls s at fields h = judged-keeps HasRisen at (callsLine fields) (λ ns. []) (λ ns. afterCalls s) (λ ns e z. h)
-
-due-risen : (t : Text) (d : Due) (s : SoFar) (at : ℕ) (fields : List (List ℕ)) → HasRisen s → Kept HasRisen (judgeDue t d s at fields)
-unfolding HasRisen
-due-risen t headerDue s at fields h = judged-keeps HasRisen at (headerLine fields) headerOrder (afterHeader s) (λ x e z. h)
-due-risen t accessDue s at fields h =
-    cond-holds (Kept HasRisen) (startsAccess fields)
-    (λ y.
-    judged-keeps HasRisen at (accessLine fields) (accessOrder s) (afterAccess s)
-    (λ a e z. risen-more (s .access) a h (not-false (rises (s .access) a) (unmet-iff (accessOrder s a) (omega arith) .0 z .1 .1 .0))))
-    (λ n. process-risen s at fields h)
-due-risen t processDue s at fields h = process-risen s at fields h
-due-risen t fileDue s at fields h = judged-keeps HasRisen at (fileLine fields) (fileOrder s) (afterFile s) (λ f e z. h)
-due-risen t callsDue s at fields h = further-risen t s at fields h
-due-risen t callDue s at fields h = judged-keeps HasRisen at (callLine fields) (λ n. callOrder s) (afterCall s) (λ n e z. h)
-
-judge-risen : (t : Text) (s : SoFar) (l : Line) → HasRisen s → Kept HasRisen (judge t s l)
-unfolding judge
-judge-risen t s l h =
-    cond-holds (Kept HasRisen) (l .whole) (λ w. due-risen t (s .due) s (l .at) (fieldsOf (l .bytes)) h) (λ n. tt)
+risen : Keeps (λ d s. Risen (s .access))
+unfolding atStart
+risen =
+    record {
+      start = tt;
+      header = λ h z. tt;
+      access =
+          λ s fields a e z h.
+          risen-more (s .access) a h (not-false (rises (s .access) a) (unmet-iff (accessOrder s a) (omega arith) .0 z .1 .1 .0));
+      no-access = λ s h. h;
+      process = λ s p z h. h;
+      file = λ s f z h. h;
+      calls = λ s h. h;
+      call = λ s fields n e z h. h;
+    }
 
 -- the access lines of a text that is read have risen
 pub read-risen : (t : Text) (text : List ℕ) (s : SoFar) → readText t text ≡ sound s → Risen (s .access)
-unfolding HasRisen atStart
-read-risen t text s e = read-keeps t HasRisen tt (judge-risen t) text s e
+read-risen t text s e = read-keeps risen t text s e

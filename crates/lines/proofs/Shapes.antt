@@ -11,7 +11,8 @@ use borrow.Author.Tests.{leb-true, eqb-true, eq-eqb}
 use lib.Dec.{leb, eqb}
 use Rattle.rules.specs.Sizes.{mostNumber}
 use Rattle.rules.specs.Setups.{rightBoth}
-use Rattle.rules.specs.Calls.{Numbers, Is32}
+use Rattle.rules.specs.Calls.{Is32}
+use Rattle.rules.specs.declared.Numbers.{Numbers}
 use Rattle.rules.proofs.Lists.{by-test}
 use Rattle.lines.specs.Bytes.{same}
 use Rattle.lines.specs.Decimals.{numberOf}
@@ -117,7 +118,7 @@ accessLine-right fields a e =
     let (ns, q, z) = made-some accessFrom (readAs accessShape fields) a e in
     subst (λ (b : Access). b .right ≤ rightBoth) z (access-right ns fields (readAs-reads accessShape fields ns q))
 
--- "Numbers of a call line are any u32"
+-- numbers of a call line are any 32-bit numbers
 number-le : (field : List ℕ) (n : ℕ) → numberOf field ≡ some n → n ≤ mostNumber
 number-le field n e = numberOf-iff field n .0 e .1
 

@@ -29,15 +29,15 @@ abbrev pub valueAfter : ℕ → List ℕ → ℕ
 valueAfter before [] = before
 valueAfter before (b ∷ rest) = valueAfter (before * ten + (b - digit0)) rest
 
-abbrev pub valueOf : List ℕ → ℕ
-valueOf field = valueAfter 0 field
+abbrev pub fieldValue : List ℕ → ℕ
+fieldValue field = valueAfter 0 field
 
 -- "decimal, no sign, no leading zero but for 0 itself, at most 4,294,967,295"
 unfoldable pub isNumber : List ℕ → Bool
-isNumber field = startsWell field && areDigits field && leb (valueOf field) mostNumber
+isNumber field = startsWell field && areDigits field && leb (fieldValue field) mostNumber
 
 unfoldable pub numberOf : List ℕ → Option ℕ
-numberOf field = cond (isNumber field) (some (valueOf field)) none
+numberOf field = cond (isNumber field) (some (fieldValue field)) none
 
 -- the last digits of n, as many as it has where that is at most `most`
 unfoldable pub digitsWithin : ℕ → ℕ → List ℕ

@@ -5,10 +5,11 @@ use lib.Dec.{ltb}
 use lib.ListN.{length, drop}
 use Rattle.rules.specs.Sizes.{mostCalls}
 use Rattle.rules.specs.Setups.{setupFrom, blankSetup}
-use Rattle.rules.specs.Calls.{Numbers, callWidth, inQuads}
+use Rattle.rules.specs.Calls.{callWidth, inQuads}
+use Rattle.rules.specs.declared.Numbers.{Numbers}
 use Rattle.rules.specs.Refusals.{Refusal, _gives_, firstOf}
 use Rattle.rules.specs.Entries.{unless}
-use Rattle.lines.specs.Readings.{Reached, sound, refused, alone, withCalls, readText, bytesRead}
+use Rattle.lines.specs.Readings.{Reached, sound, refused, alone, callsFollow, readText, bytesRead}
 use Rattle.lines.specs.declared.Reading.{Reading}
 use Rattle.lines.specs.declared.Reading.the-variants.{Read, Refused}
 use Rattle.lines.specs.declared.GivenText.{GivenText}
@@ -24,8 +25,8 @@ callsBy (sound s) = s .calls
 callsBy (refused r at) = []
 
 -- "room for calls read below 4,096"
-abbrev pub refusal11 : ℕ → Refusal
-refusal11 room = ltb room (mostCalls * callWidth) gives 11
+abbrev pub refusal11OfText : ℕ → Refusal
+refusal11OfText room = ltb room (mostCalls * callWidth) gives 11
 
 -- a setup text read alone
 unfoldable pub readAlone : List ℕ → GivenText
@@ -34,8 +35,8 @@ readAlone text = givenBy (readText alone text)
 -- "Text with calls: 11, then its lines"
 unfoldable pub reachedWith : List ℕ → ℕ → Reached
 reachedWith text room =
-    let r = firstOf (refusal11 room ∷ []) in
-    unless r (readText withCalls text) (refused r 0)
+    let r = firstOf (refusal11OfText room ∷ []) in
+    unless r (readText callsFollow text) (refused r 0)
 
 unfoldable pub readWithCalls : List ℕ → ℕ → GivenText
 readWithCalls text room = givenBy (reachedWith text room)

@@ -11,16 +11,16 @@ abbrev pub onto : ℕ → List (List ℕ) → List (List ℕ)
 onto b [] = (b ∷ []) ∷ []
 onto b (piece ∷ more) = (b ∷ piece) ∷ more
 
--- bytes cut at each mark, which is in no piece; there is one piece more than there are marks
+-- bytes cut at each stop, a byte that is in no piece; there is one piece more than there are stops
 unfoldable pub pieces : ℕ → List ℕ → List (List ℕ)
-pieces mark [] = [] ∷ []
-pieces mark (b ∷ rest) = cond (eqb b mark) ([] ∷ pieces mark rest) (onto b (pieces mark rest))
+pieces stop [] = [] ∷ []
+pieces stop (b ∷ rest) = cond (eqb b stop) ([] ∷ pieces stop rest) (onto b (pieces stop rest))
 
--- pieces with the mark between each and the next
+-- pieces with the stop between each and the next
 unfoldable pub joined : ℕ → List (List ℕ) → List ℕ
-joined mark [] = []
-joined mark (piece ∷ []) = piece
-joined mark (piece ∷ (next ∷ more)) = piece ++ (mark ∷ joined mark (next ∷ more))
+joined stop [] = []
+joined stop (piece ∷ []) = piece
+joined stop (piece ∷ (next ∷ more)) = piece ++ (stop ∷ joined stop (next ∷ more))
 
 -- a line: the offset of its first byte, its bytes without the LF, and whether its LF is there
 pub record Line : Type 0 where

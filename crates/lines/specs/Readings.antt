@@ -7,12 +7,12 @@ use lib.Dec.{ltb, leb, eqb}
 use lib.ListN.{length}
 use Rattle.rules.specs.Sizes.{table, mostCalls}
 use Rattle.rules.specs.Setups.{SetupBytes, setupBytes, withinSizes}
-use Rattle.rules.specs.Calls.{Numbers}
+use Rattle.rules.specs.declared.Numbers.{Numbers}
 use Rattle.rules.specs.Refusals.{Refusal, _gives_, firstOf}
 use Rattle.rules.specs.Entries.{unless}
 use Rattle.lines.specs.Bytes.{wordAccess, same}
 use Rattle.lines.specs.Lines.{Line, linesOf, fieldsOf}
-use Rattle.lines.specs.Shapes.{Header, Access, Process, File, headerLine, accessLine, processLine, fileLine, callsLine, callLine}
+use Rattle.lines.specs.Shapes.{Header, header, Access, Process, File, headerLine, accessLine, processLine, fileLine, callsLine, callLine}
 
 -- the line that is due; accessDue is an access line or the first process line
 pub data Due : Type 0 where
@@ -34,17 +34,28 @@ pub record SoFar : Type 0 where
   pub class : List ℕ
   pub calls : List Numbers
 
+-- Only these write a state out: the header is read and nothing after it; or one part of a state is another.
+abbrev pub afterHeader : Header → SoFar
+afterHeader h = record { due = accessDue; counts = h; access = []; desk = []; class = []; calls = [] }
+
+abbrev pub setDue : SoFar → Due → SoFar
+setDue s due = record { due = due; counts = s .counts; access = s .access; desk = s .desk; class = s .class; calls = s .calls }
+
+abbrev pub setAccess : SoFar → List Access → SoFar
+setAccess s access = record { due = s .due; counts = s .counts; access = access; desk = s .desk; class = s .class; calls = s .calls }
+
+abbrev pub setDesk : SoFar → List ℕ → SoFar
+setDesk s desk = record { due = s .due; counts = s .counts; access = s .access; desk = desk; class = s .class; calls = s .calls }
+
+abbrev pub setClass : SoFar → List ℕ → SoFar
+setClass s class = record { due = s .due; counts = s .counts; access = s .access; desk = s .desk; class = class; calls = s .calls }
+
+abbrev pub setCalls : SoFar → List Numbers → SoFar
+setCalls s calls = record { due = s .due; counts = s .counts; access = s .access; desk = s .desk; class = s .class; calls = calls }
+
 -- before any line
 unfoldable pub atStart : SoFar
-atStart =
-    record {
-      due = headerDue;
-      counts = record { desks = 0; classes = 0; processes = 0; files = 0 };
-      access = [];
-      desk = [];
-      class = [];
-      calls = [];
-    }
+atStart = setDue (afterHeader (header 0 0 0 0)) headerDue
 
 -- every line was sound so far; or a line was refused, with the refusal's number and the offset of the line
 pub data Reached : Type 0 where
@@ -56,16 +67,16 @@ abbrev pub breaksRules : ℕ
 breaksRules = 14
 
 -- "a setup count lies outside its sizes"
-abbrev pub refusal1 : Header → Refusal
-refusal1 h = not (withinSizes (h .desks) (h .classes) (h .processes) (h .files)) gives 1
+abbrev pub refusal1OfText : Header → Refusal
+refusal1OfText h = not (withinSizes (h .desks) (h .classes) (h .processes) (h .files)) gives 1
 
 -- "a desk number in a setup is D or more"
-abbrev pub refusal3 : SoFar → ℕ → Refusal
-refusal3 s desk = leb (s .counts .desks) desk gives 3
+abbrev pub refusal3OfText : SoFar → ℕ → Refusal
+refusal3OfText s desk = leb (s .counts .desks) desk gives 3
 
 -- "a class number in a setup is T or more"
-abbrev pub refusal4 : SoFar → ℕ → Refusal
-refusal4 s class = leb (s .counts .classes) class gives 4
+abbrev pub refusal4OfText : SoFar → ℕ → Refusal
+refusal4OfText s class = leb (s .counts .classes) class gives 4
 
 abbrev pub refusal14 : Bool → Refusal
 refusal14 broken = broken gives breaksRules
@@ -76,11 +87,7 @@ judged at none order next = refused breaksRules at
 judged at (some x) order next = let r = firstOf (order x) in unless r (sound (next x)) (refused r at)
 
 abbrev pub headerOrder : Header → List Refusal
-headerOrder h = refusal1 h ∷ []
-
-abbrev pub afterHeader : SoFar → Header → SoFar
-afterHeader s h =
-    record { due = accessDue; counts = h; access = s .access; desk = s .desk; class = s .class; calls = s .calls }
+headerOrder h = refusal1OfText h ∷ []
 
 -- "strictly rising by desk, then class"
 abbrev pub rises : List Access → Access → Bool
@@ -88,63 +95,52 @@ rises [] a = true
 rises (last ∷ earlier) a = ltb (last .desk) (a .desk) || eqb (last .desk) (a .desk) && ltb (last .class) (a .class)
 
 abbrev pub accessOrder : SoFar → Access → List Refusal
-accessOrder s a = refusal3 s (a .desk) ∷ refusal4 s (a .class) ∷ refusal14 (not (rises (s .access) a)) ∷ []
+accessOrder s a = refusal3OfText s (a .desk) ∷ refusal4OfText s (a .class) ∷ refusal14 (not (rises (s .access) a)) ∷ []
 
 abbrev pub afterAccess : SoFar → Access → SoFar
-afterAccess s a =
-    record { due = accessDue; counts = s .counts; access = a ∷ s .access; desk = s .desk; class = s .class; calls = s .calls }
+afterAccess s a = setDue (setAccess s (a ∷ s .access)) accessDue
 
 -- "Process and file numbers run upward from 0"
 abbrev pub isNext : List ℕ → ℕ → Bool
 isNext earlier n = eqb n (length earlier)
 
 abbrev pub processOrder : SoFar → Process → List Refusal
-processOrder s p = refusal3 s (p .desk) ∷ refusal14 (not (isNext (s .desk) (p .number))) ∷ []
+processOrder s p = refusal3OfText s (p .desk) ∷ refusal14 (not (isNext (s .desk) (p .number))) ∷ []
 
--- "then P lines `process`"
+-- "then P lines `process`": those so far give these desks
+abbrev pub desksSoFar : SoFar → List ℕ → SoFar
+desksSoFar s desk = setDue (setDesk s desk) (cond (ltb (length desk) (s .counts .processes)) processDue fileDue)
+
 abbrev pub afterProcess : SoFar → Process → SoFar
-afterProcess s p =
-    let desk = s .desk ++ (p .desk ∷ []) in
-    record {
-      due = cond (ltb (length desk) (s .counts .processes)) processDue fileDue;
-      counts = s .counts;
-      access = s .access;
-      desk = desk;
-      class = s .class;
-      calls = s .calls;
-    }
+afterProcess s p = desksSoFar s (s .desk ++ (p .desk ∷ []))
 
 abbrev pub fileOrder : SoFar → File → List Refusal
-fileOrder s f = refusal4 s (f .class) ∷ refusal14 (not (isNext (s .class) (f .number))) ∷ []
+fileOrder s f = refusal4OfText s (f .class) ∷ refusal14 (not (isNext (s .class) (f .number))) ∷ []
 
--- "then F lines `file`"
+-- "then F lines `file`": those so far give these classes
+abbrev pub classesSoFar : SoFar → List ℕ → SoFar
+classesSoFar s class = setDue (setClass s class) (cond (ltb (length class) (s .counts .files)) fileDue callsDue)
+
 abbrev pub afterFile : SoFar → File → SoFar
-afterFile s f =
-    let class = s .class ++ (f .class ∷ []) in
-    record {
-      due = cond (ltb (length class) (s .counts .files)) fileDue callsDue;
-      counts = s .counts;
-      access = s .access;
-      desk = s .desk;
-      class = class;
-      calls = s .calls;
-    }
+afterFile s f = classesSoFar s (s .class ++ (f .class ∷ []))
+
+-- "`calls`, `1`; then up to 1,024 lines": those so far give these calls
+abbrev pub callsSoFar : SoFar → List Numbers → SoFar
+callsSoFar s calls = setDue (setCalls s calls) callDue
 
 abbrev pub afterCalls : SoFar → SoFar
-afterCalls s =
-    record { due = callDue; counts = s .counts; access = s .access; desk = s .desk; class = s .class; calls = s .calls }
+afterCalls s = callsSoFar s []
 
 -- "A call line past the 1,024th is 14"
-abbrev pub callOrder : SoFar → List Refusal
-callOrder s = refusal14 (leb mostCalls (length (s .calls))) ∷ []
+abbrev pub callLineOrder : SoFar → List Refusal
+callLineOrder s = refusal14 (leb mostCalls (length (s .calls))) ∷ []
 
 abbrev pub afterCall : SoFar → Numbers → SoFar
-afterCall s n =
-    record { due = callDue; counts = s .counts; access = s .access; desk = s .desk; class = s .class; calls = s .calls ++ (n ∷ []) }
+afterCall s n = callsSoFar s (s .calls ++ (n ∷ []))
 
 -- each kind of line, by its shape, its refusals in their order, and what is read after it
-abbrev pub judgeHeader : SoFar → ℕ → List (List ℕ) → Reached
-judgeHeader s at fields = judged at (headerLine fields) headerOrder (afterHeader s)
+abbrev pub judgeHeader : ℕ → List (List ℕ) → Reached
+judgeHeader at fields = judged at (headerLine fields) headerOrder afterHeader
 
 abbrev pub judgeAccess : SoFar → ℕ → List (List ℕ) → Reached
 judgeAccess s at fields = judged at (accessLine fields) (accessOrder s) (afterAccess s)
@@ -159,12 +155,12 @@ abbrev pub judgeCalls : SoFar → ℕ → List (List ℕ) → Reached
 judgeCalls s at fields = judged at (callsLine fields) (λ ns. []) (λ ns. afterCalls s)
 
 abbrev pub judgeCall : SoFar → ℕ → List (List ℕ) → Reached
-judgeCall s at fields = judged at (callLine fields) (λ n. callOrder s) (afterCall s)
+judgeCall s at fields = judged at (callLine fields) (λ n. callLineOrder s) (afterCall s)
 
 -- a setup text read alone, or one that a call text follows
 pub data Text : Type 0 where
   alone : Text
-  withCalls : Text
+  callsFollow : Text
 
 -- a line whose first field is `access`
 abbrev pub startsAccess : List (List ℕ) → Bool
@@ -174,11 +170,11 @@ startsAccess (first ∷ rest) = same wordAccess first
 -- "A setup text read alone ends there; a further line is 14. Otherwise a call text follows it"
 abbrev pub judgeFurther : Text → SoFar → ℕ → List (List ℕ) → Reached
 judgeFurther alone s at fields = refused breaksRules at
-judgeFurther withCalls s at fields = judgeCalls s at fields
+judgeFurther callsFollow s at fields = judgeCalls s at fields
 
 -- a line is judged as the one that is due
 abbrev pub judgeDue : Text → Due → SoFar → ℕ → List (List ℕ) → Reached
-judgeDue t headerDue s at fields = judgeHeader s at fields
+judgeDue t headerDue s at fields = judgeHeader at fields
 judgeDue t accessDue s at fields = cond (startsAccess fields) (judgeAccess s at fields) (judgeProcess s at fields)
 judgeDue t processDue s at fields = judgeProcess s at fields
 judgeDue t fileDue s at fields = judgeFile s at fields
@@ -200,18 +196,14 @@ judgeAll t reached (l ∷ lines) = judgeAll t (judgeNext t reached l) lines
 
 -- no line is missing
 abbrev pub complete : Text → Due → Bool
-complete alone headerDue = false
-complete alone accessDue = false
-complete alone processDue = false
-complete alone fileDue = false
+complete t headerDue = false
+complete t accessDue = false
+complete t processDue = false
+complete t fileDue = false
 complete alone callsDue = true
+complete callsFollow callsDue = false
 complete alone callDue = false
-complete withCalls headerDue = false
-complete withCalls accessDue = false
-complete withCalls processDue = false
-complete withCalls fileDue = false
-complete withCalls callsDue = false
-complete withCalls callDue = true
+complete callsFollow callDue = true
 
 -- "for a missing line that offset is the length of the text"
 abbrev pub atEnd : Text → ℕ → Reached → Reached
@@ -222,13 +214,13 @@ unfoldable pub readText : Text → List ℕ → Reached
 readText t text = atEnd t (length text) (judgeAll t (sound atStart) (linesOf text))
 
 -- "with absent pairs meaning none"
-unfoldable pub rightIn : List Access → ℕ → ℕ → ℕ
-rightIn [] d t = 0
-rightIn (a ∷ rest) d t = cond (eqb (a .desk) d && eqb (a .class) t) (a .right) (rightIn rest d t)
+unfoldable pub rightRead : List Access → ℕ → ℕ → ℕ
+rightRead [] d t = 0
+rightRead (a ∷ rest) d t = cond (eqb (a .desk) d && eqb (a .class) t) (a .right) (rightRead rest d t)
 
 -- the setup that was read, as the bytes that it could have been handed in as
 unfoldable pub bytesRead : SoFar → SetupBytes
 bytesRead s =
     let c = s .counts in
     setupBytes (c .desks) (c .classes) (c .processes) (c .files)
-    (table (c .desks * c .classes) (λ i. rightIn (s .access) (i / c .classes) (i % c .classes))) (s .desk) (s .class)
+    (table (c .desks * c .classes) (λ i. rightRead (s .access) (i / c .classes) (i % c .classes))) (s .desk) (s .class)

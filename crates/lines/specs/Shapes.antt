@@ -5,7 +5,8 @@ use mathlib.Core.List.{List, [], _∷_}
 use mathlib.Core.Option.{Option, some, none}
 use lib.ListN.{getD}
 use Rattle.rules.specs.Setups.{rightR, rightW, rightBoth}
-use Rattle.rules.specs.Calls.{Numbers, numbers, codeOfRead, codeOfWrite, codeOfLock, codeOfUnlock, codeOfOpen, codeOfClose, codeOfTestlock, codeOfCopy}
+use Rattle.rules.specs.Calls.{numbers, codeOfRead, codeOfWrite, codeOfLock, codeOfUnlock, codeOfOpen, codeOfClose, codeOfTestlock, codeOfCopy}
+use Rattle.rules.specs.declared.Numbers.{Numbers}
 use Rattle.lines.specs.Bytes.{one, wordStore, wordAccess, wordProcess, wordFile, wordCalls, wordR, wordW, wordRW, wordRead, wordWrite, wordLock, wordUnlock, wordOpen, wordClose, wordTestlock, wordCopy, same}
 use Rattle.lines.specs.Decimals.{numberOf}
 
@@ -53,11 +54,14 @@ pub record Header : Type 0 where
   pub processes : ℕ
   pub files : ℕ
 
+abbrev pub header : ℕ → ℕ → ℕ → ℕ → Header
+header desks classes processes files = record { desks = desks; classes = classes; processes = processes; files = files }
+
 abbrev pub headerShape : Shape
 headerShape = theWord wordStore ∷ theWord one ∷ aNumber ∷ aNumber ∷ aNumber ∷ aNumber ∷ []
 
 abbrev pub headerFrom : List ℕ → Header
-headerFrom ns = record { desks = getD ns 0 0; classes = getD ns 1 0; processes = getD ns 2 0; files = getD ns 3 0 }
+headerFrom ns = header (getD ns 0 0) (getD ns 1 0) (getD ns 2 0) (getD ns 3 0)
 
 unfoldable pub headerLine : List (List ℕ) → Option Header
 headerLine fields = made headerFrom (readAs headerShape fields)

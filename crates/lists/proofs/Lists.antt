@@ -13,9 +13,10 @@ use Rattle.secrecy.proofs.Runs.{after-append, answers-append}
 use Rattle.rules.specs.Sizes.{table, mostCalls}
 use Rattle.rules.specs.Setups.{accepted}
 use Rattle.rules.specs.Stores.{fits}
-use Rattle.rules.specs.Calls.{Numbers, callWidth, callsIn, callsOf}
+use Rattle.rules.specs.Calls.{callWidth, callsIn, callsOf}
 use Rattle.rules.specs.Refusals.{firstOf, refusal15, refusal16, judgeRefusal}
 use Rattle.rules.specs.Entries.{unless, called, ran}
+use Rattle.rules.specs.declared.Numbers.{Numbers}
 use Rattle.rules.specs.declared.Setup.{Setup}
 use Rattle.rules.specs.declared.Store.{Store}
 use Rattle.rules.proofs.Lists.{neither}
@@ -23,7 +24,7 @@ use Rattle.rules.proofs.Refusals.{unmet-iff, firstOf-append, judgeRefusal-iff}
 use Rattle.rules.proofs.Entries.{called-judged, ran-fits}
 use Rattle.rules.proofs.Told.{unless-refused}
 use Rattle.views.specs.Machine.{machine}
-use Rattle.lists.specs.Lists.{answerWidth, endOf, answersOver, inNumbers, refusal10, refusal11, listOrder, listRefusal, listed, roomAfter}
+use Rattle.lists.specs.Lists.{answerWidth, endOf, answersOver, inNumbers, refusal10OfList, refusal11OfList, listOrder, listRefusal, listed, answersAfter}
 use Rattle.lists.specs.declared.ListAnswer.the-variants.{Ran, Stopped}
 
 -- a list that is not refused has an accepted setup, a fitting store, four numbers a call and room for the answers
@@ -48,11 +49,11 @@ list-sound s m numbers room e =
     }
 
 -- what is held against the setup and the store comes before what is held against the list
-pub list-after : (s : Setup) (m : Store) (numbers room : ℕ) → listRefusal s m numbers room ≡ unless (judgeRefusal s m) (firstOf (refusal10 numbers ∷ refusal11 numbers room ∷ [])) (judgeRefusal s m)
+pub list-after : (s : Setup) (m : Store) (numbers room : ℕ) → listRefusal s m numbers room ≡ unless (judgeRefusal s m) (firstOf (refusal10OfList numbers ∷ refusal11OfList numbers room ∷ [])) (judgeRefusal s m)
 unfolding listRefusal judgeRefusal
-list-after s m numbers room = firstOf-append (refusal15 s ∷ refusal16 s m ∷ []) (refusal10 numbers ∷ refusal11 numbers room ∷ []) (omega arith)
+list-after s m numbers room = firstOf-append (refusal15 s ∷ refusal16 s m ∷ []) (refusal10OfList numbers ∷ refusal11OfList numbers room ∷ []) (omega arith)
 
-pub list-judged : (s : Setup) (m : Store) (numbers room : ℕ) → judgeRefusal s m ≡ 0 → listRefusal s m numbers room ≡ firstOf (refusal10 numbers ∷ refusal11 numbers room ∷ [])
+pub list-judged : (s : Setup) (m : Store) (numbers room : ℕ) → judgeRefusal s m ≡ 0 → listRefusal s m numbers room ≡ firstOf (refusal10OfList numbers ∷ refusal11OfList numbers room ∷ [])
 list-judged s m numbers room e = list-after s m numbers room ∙ rw e
 
 pub list-unjudged : (s : Setup) (m : Store) (numbers room : ℕ) → judgeRefusal s m ≢ 0 → listRefusal s m numbers room ≡ judgeRefusal s m
@@ -65,8 +66,8 @@ module _ (s : Setup) (m : Store) (list room : List ℕ) where
     unfolding listed
     listed-stops = unless-refused _ _ _ h
 
-    pub room-stops : roomAfter s m list room ≡ room
-    unfolding roomAfter
+    pub room-stops : answersAfter s m list room ≡ room
+    unfolding answersAfter
     room-stops = unless-refused _ _ _ h
 
   -- any other runs every call
@@ -75,8 +76,8 @@ module _ (s : Setup) (m : Store) (list room : List ℕ) where
     unfolding listed
     listed-runs = rw e
 
-    pub room-runs : roomAfter s m list room ≡ inNumbers (answersOver s m (callsOf list)) ++ drop (callsIn list * answerWidth) room
-    unfolding roomAfter
+    pub room-runs : answersAfter s m list room ≡ inNumbers (answersOver s m (callsOf list)) ++ drop (callsIn list * answerWidth) room
+    unfolding answersAfter
     room-runs = rw e
 
 -- running a list is running its first part and then the rest from where that ended
@@ -95,8 +96,8 @@ pub answers-none : (s : Setup) (m : Store) → answersOver s m (callsOf []) ≡ 
 unfolding answersWhere callsOf table
 answers-none s m = refl
 
-pub room-none : (s : Setup) (m : Store) (room : List ℕ) → roomAfter s m [] room ≡ room
-unfolding roomAfter inNumbers
+pub room-none : (s : Setup) (m : Store) (room : List ℕ) → answersAfter s m [] room ≡ room
+unfolding answersAfter inNumbers
 room-none s m room = rw (answers-none s m) (either (listRefusal s m 0 (length room)))
   where
     either : (r : ℕ) → unless r (inNumbers [] ++ drop 0 room) room ≡ room

@@ -8,7 +8,8 @@ use native.Mathlib.Numerals.{add-one, add-two, add-three}
 use native.Mathlib.Omega.{arith}
 use lib.ListN.{length, set, take, drop, length-append, length-take, length-drop, take-append-drop}
 use lib.Seq.{take-at, drop-append-add, drop-drop, sets-eq}
-use Rattle.rules.specs.Calls.{Numbers, numbers, callWidth, inQuads}
+use Rattle.rules.specs.Calls.{numbers, callWidth, inQuads}
+use Rattle.rules.specs.declared.Numbers.{Numbers}
 use Rattle.rules.proofs.Quads.{inQuads-append, inQuads-length}
 use Rattle.lists.specs.Writers.{withCalls}
 

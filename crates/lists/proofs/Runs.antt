@@ -11,9 +11,10 @@ use lib.ListN.{length, set, drop, length-set}
 use Rattle.secrecy.specs.Machine.{after, answersWhere}
 use Rattle.secrecy.proofs.Runs.{after-append, answers-append, one-answer-each}
 use Rattle.rules.specs.Sizes.{table}
-use Rattle.rules.specs.Calls.{Numbers, callsIn, numbersAt, callsOf}
+use Rattle.rules.specs.Calls.{callsIn, numbersAt, callsOf}
 use Rattle.rules.specs.Answers.{kindOf, valueOf}
 use Rattle.rules.specs.Entries.{ran}
+use Rattle.rules.specs.declared.Numbers.{Numbers}
 use Rattle.rules.specs.declared.Setup.{Setup}
 use Rattle.rules.specs.declared.Store.{Store}
 use Rattle.rules.specs.declared.Answer.{Answer}

@@ -1,4 +1,4 @@
--- 01, "Lists and answers": a list of calls, its run and its answers, and the refusals of a list as a whole.
+-- 01, "Lists and answers": the run of a list of calls, its answers as numbers, and the refusals of a list as a whole.
 use Prim.Native.Nat.{ℕ, _*_, _/_, _%_}
 use mathlib.Core.Bool.{not, _||_}
 use mathlib.Core.List.{List, [], _∷_, _++_}
@@ -6,10 +6,11 @@ use lib.Dec.{ltb, eqb}
 use lib.ListN.{length, drop}
 use Rattle.secrecy.specs.Machine.{after, allAnswers}
 use Rattle.rules.specs.Sizes.{mostCalls}
-use Rattle.rules.specs.Calls.{Numbers, callWidth, callsIn, callsOf}
+use Rattle.rules.specs.Calls.{callWidth, callsIn, callsOf}
 use Rattle.rules.specs.Answers.{kindOf, valueOf}
 use Rattle.rules.specs.Refusals.{Refusal, _gives_, firstOf, refusal15, refusal16}
 use Rattle.rules.specs.Entries.{unless}
+use Rattle.rules.specs.declared.Numbers.{Numbers}
 use Rattle.rules.specs.declared.Setup.{Setup}
 use Rattle.rules.specs.declared.Store.{Store}
 use Rattle.rules.specs.declared.Answer.{Answer}
@@ -35,16 +36,16 @@ inNumbers [] = []
 inNumbers (a ∷ rest) = kindOf a ∷ valueOf a ∷ inNumbers rest
 
 -- "a list's length is not a multiple of 4, or is above 4,096"
-abbrev pub refusal10 : ℕ → Refusal
-refusal10 numbers = not (eqb (numbers % callWidth) 0) || ltb (mostCalls * callWidth) numbers gives 10
+abbrev pub refusal10OfList : ℕ → Refusal
+refusal10OfList numbers = not (eqb (numbers % callWidth) 0) || ltb (mostCalls * callWidth) numbers gives 10
 
 -- "answers shorter than two numbers a call"
-abbrev pub refusal11 : ℕ → ℕ → Refusal
-refusal11 numbers room = ltb room (numbers / callWidth * answerWidth) gives 11
+abbrev pub refusal11OfList : ℕ → ℕ → Refusal
+refusal11OfList numbers room = ltb room (numbers / callWidth * answerWidth) gives 11
 
 -- "List as a whole: 15, 16, 10, 11, and then nothing runs and nothing is written"
 abbrev pub listOrder : Setup → Store → ℕ → ℕ → List Refusal
-listOrder s m numbers room = refusal15 s ∷ refusal16 s m ∷ refusal10 numbers ∷ refusal11 numbers room ∷ []
+listOrder s m numbers room = refusal15 s ∷ refusal16 s m ∷ refusal10OfList numbers ∷ refusal11OfList numbers room ∷ []
 
 unfoldable pub listRefusal : Setup → Store → ℕ → ℕ → ℕ
 listRefusal s m numbers room = firstOf (listOrder s m numbers room)
@@ -58,8 +59,8 @@ listed s m list room =
     (record { answer = Stopped r; store = m })
 
 -- "Answers fill the front of a lent run; .. what lies past the written part keeps its values"
-unfoldable pub roomAfter : Setup → Store → List ℕ → List ℕ → List ℕ
-roomAfter s m list room =
+unfoldable pub answersAfter : Setup → Store → List ℕ → List ℕ → List ℕ
+answersAfter s m list room =
     unless (listRefusal s m (length list) (length room))
     (inNumbers (answersOver s m (callsOf list)) ++ drop (callsIn list * answerWidth) room)
     room

@@ -2,7 +2,8 @@
 use Prim.Native.Nat.{ℕ, _+_, _*_}
 use mathlib.Core.List.{List, _++_}
 use lib.ListN.{length, take, drop}
-use Rattle.rules.specs.Calls.{Numbers, callWidth, inQuads}
+use Rattle.rules.specs.Calls.{callWidth, inQuads}
+use Rattle.rules.specs.declared.Numbers.{Numbers}
 
 -- the room with calls from place i on, and all else as it was
 unfoldable pub withCalls : List ℕ → ℕ → List Numbers → List ℕ

@@ -6,17 +6,25 @@ use calling::decoding::decode;
 use calling::entry::changeable;
 use calling::entry::file_of;
 use calling::entry::look_on;
+use calling::entry::meeting_of;
 use calling::entry::process_of;
-use calling::entry::sheet_of;
 use calling::stepping::step;
 use judging::fitting::judge;
 use rules::Answer;
 use rules::CALL_WIDTH;
 use rules::CALLS;
 use rules::Decoded;
+use rules::KIND_FIGURE;
+use rules::KIND_NO;
+use rules::KIND_NOTHING;
+use rules::KIND_REFUSED;
+use rules::KIND_YES;
+use rules::Numbers;
 use rules::PROCESSES;
 use rules::Setup;
 use rules::Store;
+use rules::TOO_LITTLE_ROOM;
+use rules::WRONG_LENGTH;
 ghost use mathlib.Core.Path.{_≡_};
 ghost use mathlib.Core.Bool.{true};
 ghost use mathlib.Core.List.{_++_};
@@ -26,17 +34,17 @@ ghost use Rattle.rules.specs.Setups.{accepted};
 ghost use Rattle.rules.specs.Calls.{callsIn, numbersAt, callsOf};
 ghost use Rattle.rules.specs.Answers.{kindOf, valueOf};
 ghost use Rattle.rules.specs.Entries.{decoded};
-ghost use Rattle.lists.specs.Lists.{answerWidth, endOf, answersOver, inNumbers, listRefusal, listed, roomAfter, listNumbersOf};
+ghost use Rattle.lists.specs.Lists.{answerWidth, endOf, answersOver, inNumbers, listRefusal, listed, answersAfter, listNumbersOf};
 
 fn kind_of(answer: Answer) -> u32
     ensures { λ r. ⌜ r ≡ kindOf answer ⌝ }
 {
     match answer {
-        Answer::Nothing => 0,
-        Answer::Figure(_) => 1,
-        Answer::Yes => 2,
-        Answer::No => 3,
-        Answer::Refused(_) => 4,
+        Answer::Nothing => KIND_NOTHING,
+        Answer::Figure(_) => KIND_FIGURE,
+        Answer::Yes => KIND_YES,
+        Answer::No => KIND_NO,
+        Answer::Refused(_) => KIND_REFUSED,
     }
 }
 
@@ -68,16 +76,17 @@ fn decode_at(setup: Setup, calls: &[u32], i: usize) -> Decoded
     ensures { λ r. ⌜ r ≡ decoded setup (numbersAt (now (calls .entry)) i) ⌝ }
 {
     let at = i * CALL_WIDTH;
-    decode(
-        setup,
-        calls[at],
-        calls[at + 1],
-        calls[at + 2],
-        calls[at + 3],
-    )
+    let n = Numbers {
+        operation: calls[at],
+        process: calls[at + 1],
+        file: calls[at + 2],
+        extra: calls[at + 3],
+    };
+    decode(setup, n)
 }
 
-// Runs every call of a list in order. The store is one local: each call writes one sheet of it.
+// Runs every call of a list in order. The store is one local, which each call changes in one place. What looks, steps and puts
+// back stands in calling::entry::run_one too: one function for both was slower (docs/DECISIONS.md).
 fn run_all(setup: Setup, store: Store, calls: &[u32], answers: &mut [u32]) -> Store
     requires { ⌜ (accepted setup ≡ true) × (callsIn (now calls) * answerWidth ≤ length (now answers)) ⌝ }
     ensures ends { λ r. ⌜ r ≡ endOf setup store (callsOf (now (calls .entry))) ⌝ }
@@ -98,16 +107,16 @@ fn run_all(setup: Setup, store: Store, calls: &[u32], answers: &mut [u32]) -> St
                 let x = changeable(call) as usize;
                 let at_f = f * PROCESSES + p;
                 let at_x = x * PROCESSES + p;
-                let from = sheet_of(next.holders[f], next.contents[f], next.marks[at_f]);
-                let onto = sheet_of(next.holders[x], next.contents[x], next.marks[at_x]);
+                let from = meeting_of(next.holders[f], next.contents[f], next.marks[at_f]);
+                let onto = meeting_of(next.holders[x], next.contents[x], next.marks[at_x]);
                 let look = look_on(&setup.rights, &setup.desk, &setup.class, call, from, onto);
                 let turn = step(call, look);
                 let answer = turn.answer;
-                let sheet = turn.sheet;
-                let content = sheet.content;
-                next.holders[x] = sheet.holder;
+                let meeting = turn.meeting;
+                let content = meeting.content;
+                next.holders[x] = meeting.holder;
                 next.contents[x] = content;
-                next.marks[at_x] = sheet.mark;
+                next.marks[at_x] = meeting.mark;
                 put(answers, i, answer);
                 i = after;
             }
@@ -125,13 +134,13 @@ fn list_refusal(setup: Setup, store: Store, numbers: usize, room: usize) -> u32
         return judged;
     }
     if numbers % CALL_WIDTH != 0 {
-        return 10;
+        return WRONG_LENGTH;
     }
     if CALLS * CALL_WIDTH < numbers {
-        return 10;
+        return WRONG_LENGTH;
     }
     if room < numbers / CALL_WIDTH * ANSWER_WIDTH {
-        return 11;
+        return TOO_LITTLE_ROOM;
     }
     0
 }
@@ -139,7 +148,7 @@ fn list_refusal(setup: Setup, store: Store, numbers: usize, room: usize) -> u32
 // Entry: runs a list. The setup and the store are judged once; a refused list runs nothing and writes nothing.
 pub fn run(setup: Setup, store: Store, calls: &[u32], answers: &mut [u32]) -> Listed
     ensures { λ r. ⌜ r ≡ listed setup store (now (calls .entry)) (now (answers .entry)) ⌝ }
-    ensures room { λ _. ⌜ now (answers .exit) ≡ roomAfter setup store (now (calls .entry)) (now (answers .entry)) ⌝ }
+    ensures room { λ _. ⌜ now (answers .exit) ≡ answersAfter setup store (now (calls .entry)) (now (answers .entry)) ⌝ }
     ensures numbers { λ r. ⌜ listNumbersOf (r .answer) ≡ listNumbersOf (listed setup store (now (calls .entry)) (now (answers .entry)) .answer) ⌝ }
 {
     let refusal = list_refusal(setup, store, calls.len(), answers.len());

@@ -16,14 +16,14 @@ use Rattle.lines.specs.Bytes.{same}
 use Rattle.lines.specs.Lines.{pieces, joined, linesFrom, linesOf, fieldsOf}
 use Rattle.lines.specs.Decimals.{isNumber, numberOf, digitsWithin, digitsOf}
 use Rattle.lines.specs.Shapes.{readAs, headerLine, accessLine, processLine, fileLine, callsLine, callLine}
-use Rattle.lines.specs.Readings.{atStart, judge, judgeAll, readText, rightIn, bytesRead}
+use Rattle.lines.specs.Readings.{atStart, judge, judgeAll, readText, rightRead, bytesRead}
 use Rattle.lines.proofs.Cases.{setupText, callText}
 use Rattle.printing.specs.Outputs.{answerLine, answerLines, printed}
 
 -- every definition that the program's output computes with
 unfoldable computes : Bool
 unfolding same pieces joined linesFrom linesOf fieldsOf isNumber numberOf digitsWithin digitsOf readAs headerLine accessLine
-    processLine fileLine callsLine callLine atStart judge judgeAll readText rightIn bytesRead withinSizes table givenRight
+    processLine fileLine callsLine callLine atStart judge judgeAll readText rightRead bytesRead withinSizes table givenRight
     setupFrom every someBelow mayRead mayWrite freshStore callOf goesThrough effect says answerTo nextStore numbersRefusal ran
     after answersWhere answerLine answerLines printed
 computes = true
@@ -46,14 +46,14 @@ unfolding computes
 program-case = refl
 
 -- "With the first three calls removed": the bytes of the line `calls`, `1`, and then those after the three
-abbrev header : ℕ
-header = 8
+abbrev callsBytes : ℕ
+callsBytes = 8
 
-abbrev struck : ℕ
-struck = 32
+abbrev struckBytes : ℕ
+struckBytes = 32
 
-abbrev silent : List ℕ
-silent = take header callText ++ drop (header + struck) callText
+abbrev silentText : List ℕ
+silentText = take callsBytes callText ++ drop (callsBytes + struckBytes) callText
 
 abbrev silentOutput : List ℕ
 silentOutput =
@@ -64,6 +64,6 @@ silentOutput =
     52 ∷ 9 ∷ 110 ∷ 111 ∷ 116 ∷ 104 ∷ 105 ∷ 110 ∷ 103 ∷ 10 ∷
     53 ∷ 9 ∷ 102 ∷ 105 ∷ 103 ∷ 117 ∷ 114 ∷ 101 ∷ 9 ∷ 48 ∷ 10 ∷ []
 
-pub silent-case : printed (setupText ++ silent) ≡ silentOutput
+pub silent-case : printed (setupText ++ silentText) ≡ silentOutput
 unfolding computes
 silent-case = refl

@@ -22,7 +22,7 @@ use Rattle.rules.proofs.Refusals.{judgeRefusal-iff}
 use Rattle.rules.proofs.Sizes.{length-table, table-is}
 use Rattle.rules.proofs.Stores.{freshStore-fits}
 use Rattle.views.specs.Machine.{machine}
-use Rattle.lists.specs.Lists.{answerWidth, answersOver, inNumbers, listRefusal, roomAfter}
+use Rattle.lists.specs.Lists.{answerWidth, answersOver, inNumbers, listRefusal, answersAfter}
 use Rattle.lists.proofs.Lists.{list-judged, room-runs}
 use Rattle.lists.proofs.Numbers.{inNumbers-length}
 use Rattle.printing.specs.Writers.{answersIn, answerAt, answersOf, Runs}
@@ -55,7 +55,7 @@ module _ (s : Setup) (list room : List ℕ) (h : Runs s list) (l : callsIn list 
   counted = one-answer-each (machine s) freshStore (callsOf list) ∙ length-table (callsIn list) (numbersAt list)
 
   -- their answers are at the front of the room
-  pub answers-front : take (callsIn list * answerWidth) (roomAfter s (freshness s .store) list room) ≡ inNumbers (answersOver s freshStore (callsOf list))
+  pub answers-front : take (callsIn list * answerWidth) (answersAfter s (freshness s .store) list room) ≡ inNumbers (answersOver s freshStore (callsOf list))
   answers-front =
       let answers = answersOver s freshStore (callsOf list) in
       let long : length (inNumbers answers) ≡ callsIn list * answerWidth = inNumbers-length answers ∙ ap (λ (n : ℕ). n * answerWidth) counted in

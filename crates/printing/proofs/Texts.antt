@@ -12,10 +12,10 @@ use Rattle.rules.specs.Stores.{freshStore}
 use Rattle.rules.specs.Calls.{callWidth, callsOf, inQuads}
 use Rattle.lists.specs.Lists.{answersOver}
 use Rattle.rules.proofs.Quads.{inQuads-length, calls-of-quads}
-use Rattle.lines.specs.Readings.{Reached, sound, refused, breaksRules, withCalls, readText}
+use Rattle.lines.specs.Readings.{Reached, sound, refused, breaksRules, callsFollow, readText}
 use Rattle.lines.specs.Entries.{givenBy, callsBy, reachedWith, readWithCalls, callsRead, roomRead}
 use Rattle.lines.specs.declared.Reading.the-variants.{Read, Refused}
-use Rattle.lines.proofs.Readings.{refused-sound}
+use Rattle.lines.proofs.Kept.{refused-sound}
 use Rattle.lines.proofs.Entries.{reached-room, given-read, given-refused, with-calls-accepted, callsRead-fit, callsRead-number}
 use Rattle.printing.specs.Outputs.{answerLines, refusalLine, printedOf, mostInput, printed}
 use Rattle.printing.specs.Writers.{Runs}
@@ -26,7 +26,7 @@ ran-printed (sound s) n e = refl
 ran-printed (refused r at) n e = let (s, q, l) = given-read (refused r at) n e in absurd (refused-sound q)
 
 module _ (text room : List ℕ) (h : mostCalls * callWidth ≤ length room) where
-  pub refused-printed : (r at : ℕ) → readWithCalls text (length room) .reading ≡ Refused r at → printedOf (readText withCalls text) ≡ refusalLine r at
+  pub refused-printed : (r at : ℕ) → readWithCalls text (length room) .reading ≡ Refused r at → printedOf (readText callsFollow text) ≡ refusalLine r at
   unfolding readWithCalls
   refused-printed r at e = rw (← reached-room text (length room) h, given-refused (reachedWith text (length room)) r at e .0)
 
@@ -52,7 +52,8 @@ module _ (text room : List ℕ) (h : mostCalls * callWidth ≤ length room) wher
         })
 
     pub read-printed :
-        answerLines 0 (answersOver (readWithCalls text (length room) .setup) freshStore (callsOf (take (n * callWidth) (roomRead text room)))) ≡ printedOf (readText withCalls text)
+        answerLines 0 (answersOver (readWithCalls text (length room) .setup) freshStore (callsOf (take (n * callWidth) (roomRead text room))))
+        ≡ printedOf (readText callsFollow text)
     unfolding readWithCalls callsRead
     read-printed = rw (front, calls-of-quads) (ran-printed (reachedWith text (length room)) n e ∙ ap printedOf (reached-room text (length room) h))
 
@@ -61,6 +62,6 @@ pub printed-long : (input : List ℕ) → mostInput < length input → printed i
 unfolding printed
 printed-long input l = rw (lt-ltb mostInput (length input) l)
 
-pub printed-text : (input : List ℕ) → length input ≤ mostInput → printed input ≡ printedOf (readText withCalls input)
+pub printed-text : (input : List ℕ) → length input ≤ mostInput → printed input ≡ printedOf (readText callsFollow input)
 unfolding printed
 printed-text input l = rw (le-ltb mostInput (length input) l)

@@ -12,7 +12,7 @@ use Rattle.lists.specs.Lists.{answersOver}
 use Rattle.lines.specs.Bytes.{lineFeed, tab}
 use Rattle.lines.specs.Lines.{joined}
 use Rattle.lines.specs.Decimals.{digitsOf}
-use Rattle.lines.specs.Readings.{Reached, sound, refused, breaksRules, withCalls, readText, bytesRead}
+use Rattle.lines.specs.Readings.{Reached, sound, refused, breaksRules, callsFollow, readText, bytesRead}
 
 -- `nothing`
 abbrev pub wordNothing : List ℕ
@@ -70,4 +70,4 @@ mostInput = 32_768
 
 -- "Input above 32,768 bytes gives `refused`, 14, 32768, before any line is judged"
 unfoldable pub printed : List ℕ → List ℕ
-printed input = cond (ltb mostInput (length input)) (refusalLine breaksRules mostInput) (printedOf (readText withCalls input))
+printed input = cond (ltb mostInput (length input)) (refusalLine breaksRules mostInput) (printedOf (readText callsFollow input))

@@ -7,6 +7,7 @@ use judging::fitting::fresh;
 use lines::Reading;
 use lists::ANSWER_WIDTH;
 use lists::running::run;
+use rules::BREAKS_RULES;
 use rules::CALL_WIDTH;
 use rules::CALLS;
 use rules::Setup;
@@ -19,12 +20,9 @@ ghost use Rattle.rules.specs.Sizes.{mostCalls};
 ghost use Rattle.rules.specs.Stores.{freshStore};
 ghost use Rattle.rules.specs.Calls.{callsOf};
 ghost use Rattle.lists.specs.Lists.{answersOver};
-ghost use Rattle.lines.specs.Readings.{withCalls, readText};
+ghost use Rattle.lines.specs.Readings.{callsFollow, readText};
 ghost use Rattle.printing.specs.Outputs.{answerLines, printedOf, printed};
 ghost use Rattle.printing.specs.Writers.{Wrote, longestLine, Runs};
-
-// The refusal of a text that breaks the line rules.
-const BREAKS_RULES: u32 = 14;
 
 // Runs calls on a fresh store, and prints their answers.
 fn print_calls(setup: Setup, calls: &[u32], out: &mut [u8]) -> usize
@@ -42,7 +40,7 @@ fn print_calls(setup: Setup, calls: &[u32], out: &mut [u8]) -> usize
 // A text that is no longer than the program takes: its calls are read and run, or its refusal is printed.
 fn print_text(text: &[u8], out: &mut [u8]) -> usize
     requires { ⌜ mostCalls * longestLine ≤ length (now out) ⌝ }
-    ensures { λ r. ⌜ Wrote (now (out .entry)) 0 (printedOf (readText withCalls (now (text .entry)))) r (now (out .exit)) ⌝ }
+    ensures { λ r. ⌜ Wrote (now (out .entry)) 0 (printedOf (readText callsFollow (now (text .entry)))) r (now (out .exit)) ⌝ }
 {
     let mut calls = [0u32; CALLS * CALL_WIDTH];
     let given = read_with_calls(text, &mut calls);

@@ -1,6 +1,10 @@
 // Writing words, numbers and lines into a lent run of bytes. Each function answers the place after what it wrote.
 use lists::ANSWER_WIDTH;
 use rules::Answer;
+use rules::KIND_FIGURE;
+use rules::KIND_NO;
+use rules::KIND_REFUSED;
+use rules::KIND_YES;
 ghost use mathlib.Core.Path.{_≡_};
 ghost use mathlib.Core.List.{[], _∷_, _++_};
 ghost use Prim.Native.Nat.{_+_, _*_, _<_, _≤_};
@@ -14,7 +18,7 @@ ghost use Rattle.printing.specs.Writers.{Fit, Wrote, longestLine, longes
 
 const LINE_FEED: u8 = b'\n';
 
-const DIGIT0: u8 = b'0';
+const DIGIT_0: u8 = b'0';
 
 const TEN: u64 = 10;
 
@@ -43,7 +47,7 @@ fn put_number(out: &mut [u8], at: usize, n: u64) -> usize
     requires { ⌜ Fit (now out) at (digitsOf n) ⌝ }
     ensures { λ r. ⌜ Wrote (now (out .entry)) at (digitsOf n) r (now (out .exit)) ⌝ }
 {
-    let digit = DIGIT0 + (n % TEN) as u8;
+    let digit = DIGIT_0 + (n % TEN) as u8;
     if n < TEN {
         return put_byte(out, at, digit);
     }
@@ -91,10 +95,10 @@ fn answer_of(kind: u32, value: u32) -> Answer
     ensures { λ r. ⌜ r ≡ answerOf (kind, value) ⌝ }
 {
     match kind {
-        1 => Answer::Figure(value),
-        2 => Answer::Yes,
-        3 => Answer::No,
-        4 => Answer::Refused(value),
+        KIND_FIGURE => Answer::Figure(value),
+        KIND_YES => Answer::Yes,
+        KIND_NO => Answer::No,
+        KIND_REFUSED => Answer::Refused(value),
         _ => Answer::Nothing,
     }
 }

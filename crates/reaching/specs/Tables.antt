@@ -26,7 +26,7 @@ serving rights filed d e t = isMarked filed t && hasW (getD rights (d * mostClas
 abbrev pub isServed : List ℕ → List ℕ → ℕ → ℕ → Bool
 isServed rights filed d e = someBelow mostClasses (serving rights filed d e)
 
--- by its rights and by the marks of the desks that have a process and of the classes that have a file
+-- a link runs from d to e, as the rights, the marks of the desks that have a process and those of the classes that have a file tell it
 abbrev pub linkedBy : List ℕ → List ℕ → List ℕ → ℕ → ℕ → Bool
 linkedBy rights seats filed d e = isMarked seats d && isMarked seats e && isServed rights filed d e
 

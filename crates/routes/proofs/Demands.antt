@@ -68,7 +68,7 @@ module _ (s : Setup) (a b : ℕ) {n : ℕ} (h : Sound s a b n) where
         count = ap callsFor (sym (chainOf-length (linked s) a b));
         list = list;
         shows = rw list (report-shows s (h .setup) a b is-desk (h .apart) (near-route g));
-        heard = near-heard g;
+        hears = near-heard g;
       }
 
 -- the report's answer, and the room as it leaves it, meet demand 3

@@ -9,8 +9,9 @@ use native.Mathlib.Omega.{arith}
 use lib.ListN.{length, getD, drop, length-append}
 use Rattle.rules.specs.Sizes.{mostDesks, mostFiles}
 use Rattle.rules.specs.Setups.{accepted}
-use Rattle.rules.specs.Calls.{Numbers, callWidth, inQuads}
+use Rattle.rules.specs.Calls.{callWidth, inQuads}
 use Rattle.rules.specs.Links.{linked}
+use Rattle.rules.specs.declared.Numbers.{Numbers}
 use Rattle.rules.specs.declared.Setup.{Setup}
 use Rattle.rules.proofs.Setups.{accepted-sizes}
 use Rattle.lists.specs.Writers.{withCalls}

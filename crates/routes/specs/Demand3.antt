@@ -1,4 +1,5 @@
--- 01, "What a reader may rely on", demand 3: "no route" is said where desk B can never hear desk A, and a route is shown by its list.
+-- Demand 3, which 01 names under "What a reader may rely on": "no route" is said where desk B can never hear desk A, and a route is shown by
+-- its list.
 use Prim.Native.Nat.{ℕ, _*_}
 use mathlib.Core.Path.{_≡_}
 use mathlib.Core.List.{List}
@@ -23,7 +24,7 @@ pub record ShownBy (s : Setup) (a b n : ℕ) (room : List ℕ) : Type 0 where
   pub list : callsOf (take (n * callWidth) room) ≡ routeCalls s a chain
   -- run from a fresh store they let b hear a: its last answer is the figure 1, and the figure 0 without a's calls
   pub shows : Shows s a b (callsOf (take (n * callWidth) room))
-  pub heard : ¬ Unheard s a b
+  pub hears : ¬ Unheard s a b
 
 -- what each answer tells of desks a and b; where it is "no route", no list of calls lets b hear whether a's are in it
 abbrev pub Demand3 : Setup → ℕ → ℕ → RouteAnswer → List ℕ → Type 0

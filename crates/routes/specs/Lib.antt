@@ -1,4 +1,4 @@
--- What a reader must believe of the route report.
+-- What a reader must believe of the route report; and Writers, for inner functions.
 pub mod Reports
 pub mod Demand3
 pub mod Writers

@@ -19,8 +19,8 @@ abbrev pub mostRouteNumbers : ℕ
 mostRouteNumbers = callsFor mostLinks * callWidth
 
 -- "route room below 244 numbers"
-abbrev pub refusal11 : ℕ → Refusal
-refusal11 room = ltb room mostRouteNumbers gives 11
+abbrev pub refusal11OfRoute : ℕ → Refusal
+refusal11OfRoute room = ltb room mostRouteNumbers gives 11
 
 -- "a route desk is D or more"
 abbrev pub refusal12 : Setup → ℕ → ℕ → Refusal
@@ -32,7 +32,7 @@ refusal13 a b = eqb a b gives 13
 
 -- "Route: 15, 12, 13, 11"
 abbrev pub routeOrder : Setup → ℕ → ℕ → ℕ → List Refusal
-routeOrder s a b room = refusal15 s ∷ refusal12 s a b ∷ refusal13 a b ∷ refusal11 room ∷ []
+routeOrder s a b room = refusal15 s ∷ refusal12 s a b ∷ refusal13 a b ∷ refusal11OfRoute room ∷ []
 
 unfoldable pub routeRefusal : Setup → ℕ → ℕ → ℕ → ℕ
 routeRefusal s a b room = firstOf (routeOrder s a b room)

@@ -16,7 +16,7 @@ use Rattle.routes.specs.Reports.{mostRouteNumbers}
 abbrev pub walked : List ℕ → List ℕ → ℕ → List ℕ
 walked links to a = walk (linksIn links) to a (getD to a 0)
 
--- a walk from a is a chain of a setup's links, with a link at least, and there is room for its list
+-- a walk from a is a chain of a setup's links, with a link at least, and there is room for the longest list
 pub record Ready (s : Setup) (links to : List ℕ) (a : ℕ) (room : List ℕ) : Type 0 where
   pub setup : accepted s ≡ true
   pub long : length links ≡ mostPairs

@@ -9,20 +9,15 @@ use judging::fitting::accepted;
 use reaching::linking::links_of;
 use reaching::nearing::FAR;
 use reaching::nearing::reach;
+use rules::NO_ROUTE_DESK;
+use rules::NOT_ACCEPTED;
+use rules::SAME_DESK;
 use rules::Setup;
+use rules::TOO_LITTLE_ROOM;
 ghost use mathlib.Core.Path.{_≡_};
 ghost use lib.ListN.{length};
 ghost use Rattle.routes.specs.Reports.{routeRefusal, routed, roomAfter, routeNumbersOf};
 ghost use Rattle.routes.specs.Demand3.{Demand3};
-
-// The refusals of a route.
-const NO_ROOM: u32 = 11;
-
-const NO_DESK: u32 = 12;
-
-const SAME_DESK: u32 = 13;
-
-const NOT_ACCEPTED: u32 = 15;
 
 // The refusal of a route, or 0: the order is 15, 12, 13, 11.
 fn route_refusal(setup: Setup, a: u32, b: u32, room: usize) -> u32
@@ -32,16 +27,16 @@ fn route_refusal(setup: Setup, a: u32, b: u32, room: usize) -> u32
         return NOT_ACCEPTED;
     }
     if setup.desks <= a {
-        return NO_DESK;
+        return NO_ROUTE_DESK;
     }
     if setup.desks <= b {
-        return NO_DESK;
+        return NO_ROUTE_DESK;
     }
     if a == b {
         return SAME_DESK;
     }
     if room < ROUTE_NUMBERS {
-        return NO_ROOM;
+        return TOO_LITTLE_ROOM;
     }
     0
 }

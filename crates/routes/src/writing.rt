@@ -9,34 +9,53 @@ use rules::CODE_OF_OPEN;
 use rules::CODE_OF_READ;
 use rules::CODE_OF_UNLOCK;
 use rules::CODE_OF_WRITE;
+use rules::Numbers;
 use rules::Setup;
 ghost use mathlib.Core.Path.{_≡_};
-ghost use mathlib.Core.List.{_++_};
+ghost use mathlib.Core.List.{[], _∷_, _++_};
 ghost use Prim.Native.Nat.{_+_, _*_, _≤_};
 ghost use lib.ListN.{length, getD, drop};
-ghost use Rattle.rules.specs.Calls.{callWidth, inQuads};
+ghost use Rattle.rules.specs.Calls.{numbers, callWidth, inQuads};
 ghost use Rattle.lists.specs.Writers.{withCalls};
 ghost use Rattle.demand.specs.Routes.{startCalls, middleCalls, endCalls, routeCalls, callsFor};
 ghost use Rattle.routes.specs.Writers.{walked, Ready};
 
-// The figure that desk A writes, and the extra number of a call that takes none.
+// The figure that desk A writes.
 const SHOWN: u32 = 1;
-
-const NONE: u32 = 0;
 
 // How many calls desk A makes, and how many each desk in the middle.
 const START_CALLS: usize = 3;
 
 const MIDDLE_CALLS: usize = 4;
 
+// Call i is one that takes no extra number.
+fn put_plain(room: &mut [u32], i: usize, code: u32, p: u32, f: u32)
+    requires { ⌜ i * callWidth + callWidth ≤ length (now room) ⌝ }
+    ensures { λ _. ⌜ now (room .exit) ≡ withCalls (now (room .entry)) i (numbers code p f 0 ∷ []) ⌝ }
+{
+    let n = Numbers {
+        operation: code,
+        process: p,
+        file: f,
+        extra: 0,
+    };
+    put_call(room, i, n);
+}
+
 // Desk A's calls: its process p writes into the first link's file.
 fn put_start(room: &mut [u32], p: u32, first: u32)
     requires { ⌜ length (startCalls p first) * callWidth ≤ length (now room) ⌝ }
     ensures { λ _. ⌜ now (room .exit) ≡ withCalls (now (room .entry)) 0 (startCalls p first) ⌝ }
 {
-    put_call(room, 0, CODE_OF_LOCK, p, first, NONE);
-    put_call(room, 1, CODE_OF_WRITE, p, first, SHOWN);
-    put_call(room, 2, CODE_OF_UNLOCK, p, first, NONE);
+    let write = Numbers {
+        operation: CODE_OF_WRITE,
+        process: p,
+        file: first,
+        extra: SHOWN,
+    };
+    put_plain(room, 0, CODE_OF_LOCK, p, first);
+    put_call(room, 1, write);
+    put_plain(room, 2, CODE_OF_UNLOCK, p, first);
 }
 
 // A middle desk's calls from call i on: its process p copies the file f before it into the next, g.
@@ -44,10 +63,16 @@ fn put_middle(room: &mut [u32], i: usize, p: u32, f: u32, g: u32)
     requires { ⌜ (i + length (middleCalls p f g)) * callWidth ≤ length (now room) ⌝ }
     ensures { λ _. ⌜ now (room .exit) ≡ withCalls (now (room .entry)) i (middleCalls p f g) ⌝ }
 {
-    put_call(room, i, CODE_OF_OPEN, p, f, NONE);
-    put_call(room, i + 1, CODE_OF_LOCK, p, g, NONE);
-    put_call(room, i + 2, CODE_OF_COPY, p, f, g);
-    put_call(room, i + 3, CODE_OF_UNLOCK, p, g, NONE);
+    let copy = Numbers {
+        operation: CODE_OF_COPY,
+        process: p,
+        file: f,
+        extra: g,
+    };
+    put_plain(room, i, CODE_OF_OPEN, p, f);
+    put_plain(room, i + 1, CODE_OF_LOCK, p, g);
+    put_call(room, i + 2, copy);
+    put_plain(room, i + 3, CODE_OF_UNLOCK, p, g);
 }
 
 // Desk B's calls from call i on: its process p reads the last link's file.
@@ -55,8 +80,8 @@ fn put_end(room: &mut [u32], i: usize, p: u32, last: u32)
     requires { ⌜ (i + length (endCalls p last)) * callWidth ≤ length (now room) ⌝ }
     ensures { λ _. ⌜ now (room .exit) ≡ withCalls (now (room .entry)) i (endCalls p last) ⌝ }
 {
-    put_call(room, i, CODE_OF_OPEN, p, last, NONE);
-    put_call(room, i + 1, CODE_OF_READ, p, last, NONE);
+    put_plain(room, i, CODE_OF_OPEN, p, last);
+    put_plain(room, i + 1, CODE_OF_READ, p, last);
 }
 
 // The list along the chain from a: k links are left from desk d on, and f is the file before it.

@@ -1,20 +1,18 @@
 -- Laws of the eight calls: what each leaves alone, what OPEN and TESTLOCK need, and that a call on what exists keeps a store fitting.
 -- Assumes nothing.
-use Prim.Native.Nat.{ℕ, _+_, _-_, _<_, _≤_}
+use Prim.Native.Nat.{ℕ, _+_, _-_, _<_}
 use mathlib.Core.Path.{_≡_, refl}
 use mathlib.Core.Bool.{Bool, true, false, and-eq-true-iff, and-false, or-true, false≢true}
 use mathlib.Core.Logic.{_≢_}
 use native.Mathlib.Omega.{arith}
-use borrow.Author.Tests.{ltb-true, ltb-false, eqb-true, lt-ltb, ne-eqb}
-use lib.Dec.{ltb}
-use lib.Seq.{set-getD, set-set}
+use borrow.Author.Tests.{eqb-true, lt-ltb, ne-eqb}
+use lib.Seq.{set-set}
 use Rattle.rules.specs.Sizes.{mostProcesses}
 use Rattle.rules.specs.Setups.{mayRead, mayWrite, accepted}
-use Rattle.rules.specs.Stores.{unlocked, lockedBy, blankContent, holderOf, markAt, sheetOf, withSheet, holderFits, markFits, fits}
-use Rattle.rules.specs.Calls.{processOf, changeable, targetOf, goesThrough, effect, says, answerTo, nextStore}
+use Rattle.rules.specs.Stores.{unlocked, lockedBy, holderOf, putMark, holderFits, markFits, fits}
+use Rattle.rules.specs.Calls.{goesThrough, effect, says, answerTo, nextStore}
+use Rattle.rules.specs.Parts.{processOf, changeable}
 use Rattle.rules.specs.declared.Setup.{Setup}
-use Rattle.rules.specs.declared.Sheet.{Sheet}
-use Rattle.rules.specs.declared.Content.{Content}
 use Rattle.rules.specs.declared.Store.{Store}
 use Rattle.rules.specs.declared.Call.{Call}
 use Rattle.rules.specs.declared.Call.the-variants.{Read, Write, Lock, Unlock, Open, Close, Testlock, Copy}
@@ -23,13 +21,22 @@ use Rattle.rules.specs.declared.Answer.the-variants.{Nothing}
 use Rattle.rules.proofs.Codes.{Exists}
 use Rattle.rules.proofs.Lists.{cond-holds}
 use Rattle.rules.proofs.Setups.{accepted-sizes}
-use Rattle.rules.proofs.Stores.{fits-at, fits-withSheet, sheetOf-other, withSheet-own}
+use Rattle.rules.proofs.Stores.{fits-putHolder, fits-putContent, fits-putMark, Kept, kept, putHolder-other, putContent-other, putMark-other}
 
 -- what holds of the store as it is where the call does not go through, and of it with the effect where it does, holds of the next store
 pub nextStore-holds {ℓ} : (P : Store → Type ℓ) (s : Setup) (m : Store) (c : Call) → (goesThrough s m c ≡ false → P m)
-    → (goesThrough s m c ≡ true → P (withSheet m (processOf c) (changeable c) (effect m c))) → P (nextStore s m c)
+    → (goesThrough s m c ≡ true → P (effect m c)) → P (nextStore s m c)
 unfolding nextStore
 nextStore-holds P s m c f t = cond-holds P (goesThrough s m c) t f
+
+-- "READ and TESTLOCK change nothing"
+pub read-changes-nothing : (s : Setup) (m : Store) (p f : ℕ) → nextStore s m (Read p f) ≡ m
+unfolding effect
+read-changes-nothing s m p f = nextStore-holds (λ (n : Store). n ≡ m) s m (Read p f) (λ g. refl) (λ g. refl)
+
+pub testlock-changes-nothing : (s : Setup) (m : Store) (p f : ℕ) → nextStore s m (Testlock p f) ≡ m
+unfolding effect
+testlock-changes-nothing s m p f = nextStore-holds (λ (n : Store). n ≡ m) s m (Testlock p f) (λ g. refl) (λ g. refl)
 
 -- a process that exists and may write fits as a holder, and one that may read fits with its mark
 holder-fits-by : (s : Setup) (f p : ℕ) → p < s .processes → mayWrite s p f ≡ true → holderFits s f (p + 1) ≡ true
@@ -42,42 +49,24 @@ mark-fits-by : (s : Setup) (f p : ℕ) → p < s .processes → mayRead s p f �
 unfolding markFits
 mark-fits-by s f p l r = rw (lt-ltb p (s .processes) l, r)
 
--- the holder that a call which goes through leaves fits, if the one that it found does
-effect-holder-fits : (s : Setup) (m : Store) (c : Call) → Exists s c → holderFits s (changeable c) (targetOf m c .holder) ≡ true → goesThrough s m c ≡ true
-    → holderFits s (changeable c) (effect m c .holder) ≡ true
-unfolding effect goesThrough holderFits
-effect-holder-fits s m (Read p f) x e g = e
-effect-holder-fits s m (Write p f n) x e g = e
-effect-holder-fits s m (Lock p f) x e g = holder-fits-by s f p (x .process) (and-eq-true-iff (mayWrite s p f) _ .0 g .0)
-effect-holder-fits s m (Unlock p f) x e g = refl
-effect-holder-fits s m (Open p f) x e g = e
-effect-holder-fits s m (Close p f) x e g = e
-effect-holder-fits s m (Testlock p f) x e g = e
-effect-holder-fits s m (Copy p f n) x e g = e
-
--- and so does its process's mark
-effect-mark-fits : (s : Setup) (m : Store) (c : Call) → Exists s c → markFits s (changeable c) (processOf c) (targetOf m c .mark) ≡ true → goesThrough s m c ≡ true
-    → markFits s (changeable c) (processOf c) (effect m c .mark) ≡ true
-unfolding effect goesThrough markFits
-effect-mark-fits s m (Read p f) x e g = e
-effect-mark-fits s m (Write p f n) x e g = e
-effect-mark-fits s m (Lock p f) x e g = e
-effect-mark-fits s m (Unlock p f) x e g = e
-effect-mark-fits s m (Open p f) x e g = mark-fits-by s f p (x .process) (and-eq-true-iff (mayRead s p f) _ .0 g .0)
-effect-mark-fits s m (Close p f) x e g = refl
-effect-mark-fits s m (Testlock p f) x e g = e
-effect-mark-fits s m (Copy p f n) x e g = e
+-- a call that goes through leaves a store that fits, if it found one
+effect-fits : (s : Setup) (m : Store) (c : Call) → Exists s c → processOf c < mostProcesses → fits s m ≡ true → goesThrough s m c ≡ true
+    → fits s (effect m c) ≡ true
+unfolding effect goesThrough holderFits markFits
+effect-fits s m (Read p f) x k e g = e
+effect-fits s m (Write p f n) x k e g = fits-putContent s m f (x .file) e _
+effect-fits s m (Lock p f) x k e g = fits-putHolder s m f (x .file) e (p + 1) (holder-fits-by s f p (x .process) (and-eq-true-iff (mayWrite s p f) _ .0 g .0))
+effect-fits s m (Unlock p f) x k e g = fits-putHolder s m f (x .file) e 0 refl
+effect-fits s m (Open p f) x k e g = fits-putMark s m f (x .file) e p 1 k (mark-fits-by s f p (x .process) (and-eq-true-iff (mayRead s p f) _ .0 g .0))
+effect-fits s m (Close p f) x k e g = fits-putMark s m f (x .file) e p 0 k refl
+effect-fits s m (Testlock p f) x k e g = e
+effect-fits s m (Copy p f n) x k e g = fits-putContent s m n (x .changed) e _
 
 -- "Every accepted call keeps a store fitting"
 pub nextStore-fits : (s : Setup) (m : Store) (c : Call) → accepted s ≡ true → Exists s c → fits s m ≡ true → fits s (nextStore s m c) ≡ true
 nextStore-fits s m c a x e =
-    let sizes = accepted-sizes s a in
-    let p : processOf c < mostProcesses = omega (arith, x .process, sizes .of-processes .high) in
-    let old = fits-at s m e (changeable c) (omega (arith, x .changed, sizes .of-files .high)) in
     nextStore-holds (λ (n : Store). fits s n ≡ true) s m c (λ g. e)
-    (λ g.
-    fits-withSheet s m (processOf c) (changeable c) (effect m c) p (x .changed) e
-    (effect-holder-fits s m c x (old .holder-fits (x .changed)) g) (effect-mark-fits s m c x (old .mark-fits (x .changed) (processOf c) p) g))
+    (effect-fits s m c x (omega (arith, x .process, accepted-sizes s a .of-processes .high)) e)
 
 module _ (s : Setup) (m : Store) (c : Call) (e : goesThrough s m c ≡ false) where
   -- a call that does not go through leaves the store as it is, and answers "nothing"
@@ -89,26 +78,21 @@ module _ (s : Setup) (m : Store) (c : Call) (e : goesThrough s m c ≡ false) wh
   unfolding answerTo
   answerTo-stays = rw e
 
--- every call changes at most one file, whoever looks
-pub nextStore-other : (s : Setup) (m : Store) (c : Call) (q g : ℕ) → processOf c < mostProcesses → q < mostProcesses → g ≢ changeable c
-    → sheetOf (nextStore s m c) q g ≡ sheetOf m q g
-nextStore-other s m c q g k l h =
-    nextStore-holds (λ (n : Store). sheetOf n q g ≡ sheetOf m q g) s m c (λ e. refl)
-    (λ e. sheetOf-other m (processOf c) q (changeable c) g (effect m c) k l h)
-
--- a call whose effect is the sheet as it is changes nothing
-nextStore-same : (s : Setup) (m : Store) (c : Call) → effect m c ≡ targetOf m c → nextStore s m c ≡ m
-nextStore-same s m c e =
-    nextStore-holds (λ (n : Store). n ≡ m) s m c (λ g. refl) (λ g. rw e (withSheet-own m (processOf c) (changeable c)))
-
--- "READ and TESTLOCK change nothing"
-pub read-changes-nothing : (s : Setup) (m : Store) (p f : ℕ) → nextStore s m (Read p f) ≡ m
+-- a call that goes through changes at most one file
+effect-other : (m : Store) (c : Call) (g : ℕ) → processOf c < mostProcesses → g ≢ changeable c → Kept g m (effect m c)
 unfolding effect
-read-changes-nothing s m p f = nextStore-same s m (Read p f) refl
+effect-other m (Read p f) g k h = kept
+effect-other m (Write p f x) g k h = putContent-other m f g h _
+effect-other m (Lock p f) g k h = putHolder-other m f g h _
+effect-other m (Unlock p f) g k h = putHolder-other m f g h _
+effect-other m (Open p f) g k h = putMark-other m f g h p 1 k
+effect-other m (Close p f) g k h = putMark-other m f g h p 0 k
+effect-other m (Testlock p f) g k h = kept
+effect-other m (Copy p f x) g k h = putContent-other m x g h _
 
-pub testlock-changes-nothing : (s : Setup) (m : Store) (p f : ℕ) → nextStore s m (Testlock p f) ≡ m
-unfolding effect
-testlock-changes-nothing s m p f = nextStore-same s m (Testlock p f) refl
+-- and so does every call
+pub nextStore-other : (s : Setup) (m : Store) (c : Call) (g : ℕ) → processOf c < mostProcesses → g ≢ changeable c → Kept g m (nextStore s m c)
+nextStore-other s m c g k h = nextStore-holds (λ (n : Store). Kept g m n) s m c (λ e. kept) (λ e. effect-other m c g k h)
 
 -- the calls other than READ and TESTLOCK
 abbrev pub silent : Call → Bool
@@ -144,19 +128,10 @@ pub open-twice : (s : Setup) (m : Store) (p f : ℕ) → nextStore s (nextStore 
 unfolding effect
 open-twice s m p f =
     nextStore-holds (λ (n : Store). nextStore s n (Open p f) ≡ n) s m (Open p f) (nextStore-stays s m (Open p f))
-    (λ g. nextStore-holds (λ (n : Store). n ≡ opened) s opened (Open p f) (λ h. refl) (λ h. again))
+    (λ g. nextStore-holds (λ (n : Store). n ≡ opened) s opened (Open p f) (λ h. refl) (λ h. rw set-set))
   where
     opened : Store
-    opened = withSheet m p f (effect m (Open p f))
-
-    again : withSheet opened p f (effect opened (Open p f)) ≡ opened
-    again =
-        λ i.
-        record {
-          holders = set-getD (opened .holders) f 0 i;
-          contents = set-getD (opened .contents) f blankContent i;
-          marks = set-set (m .marks) (markAt f p) 1 1 i;
-        }
+    opened = putMark m f p 1
 
 -- "OPEN of a file that p itself has locked does not go through"
 pub open-own-locked : (s : Setup) (m : Store) (p f : ℕ) → lockedBy (holderOf m f) p ≡ true → goesThrough s m (Open p f) ≡ false

@@ -2,15 +2,18 @@
 -- Assumes nothing.
 use Prim.Native.Nat.{ℕ, _+_, _-_, _<_}
 use mathlib.Core.Path.{_≡_, refl, sym, _∙_, subst}
-use mathlib.Core.List.{map}
+use mathlib.Core.List.{[], _∷_, map}
 use mathlib.Core.Option.{some}
 use native.Mathlib.Omega.{arith}
 use lib.ListN.{length, getD, getElem?, replicate, List·getD-map}
 use Rattle.rules.specs.Sizes.{mostProcesses, mostFiles}
-use Rattle.rules.specs.Calls.{Numbers, calls, firstCode, lastCode, codeOfWrite, codeOfCopy, callOf, processOf, fileOf, changeable}
+use Rattle.rules.specs.Calls.{numbers, calls, firstCode, lastCode, callOf}
+use Rattle.rules.specs.Calls.{codeOfRead, codeOfWrite, codeOfLock, codeOfUnlock, codeOfOpen, codeOfClose, codeOfTestlock, codeOfCopy}
+use Rattle.rules.specs.Parts.{processOf, fileOf, changeable}
+use Rattle.rules.specs.declared.Numbers.{Numbers}
 use Rattle.rules.specs.declared.Setup.{Setup}
 use Rattle.rules.specs.declared.Call.{Call}
-use Rattle.rules.specs.declared.Call.the-variants.{Read, Write, Copy}
+use Rattle.rules.specs.declared.Call.the-variants.{Read}
 use Rattle.rules.proofs.Lists.{set-holds, getD-alike, getElem?-getD}
 
 -- a call's process exists, and so does each file that it names
@@ -55,11 +58,17 @@ callOf-at n k l e =
     let place : n .operation - firstCode ≡ k = omega arith in
     rw place (getElem?-getD (calls (n .process) (n .file) (n .extra)) k (Read (n .process) (n .file)) l)
 
--- so the codes that are said by name are those of WRITE and of COPY
-pub callOf-write : (n : Numbers) → n .operation ≡ codeOfWrite → callOf n ≡ Write (n .process) (n .file) (n .extra)
+-- so each code's name is that of its call
+pub codes-named : (p f x : ℕ)
+    → callOf (numbers codeOfRead p f x)
+    ∷ callOf (numbers codeOfWrite p f x)
+    ∷ callOf (numbers codeOfLock p f x)
+    ∷ callOf (numbers codeOfUnlock p f x)
+    ∷ callOf (numbers codeOfOpen p f x)
+    ∷ callOf (numbers codeOfClose p f x)
+    ∷ callOf (numbers codeOfTestlock p f x)
+    ∷ callOf (numbers codeOfCopy p f x)
+    ∷ []
+    ≡ calls p f x
 unfolding callOf
-callOf-write n e = rw e
-
-pub callOf-copy : (n : Numbers) → n .operation ≡ codeOfCopy → callOf n ≡ Copy (n .process) (n .file) (n .extra)
-unfolding callOf
-callOf-copy n e = rw e
+codes-named p f x = refl

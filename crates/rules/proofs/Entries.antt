@@ -14,10 +14,12 @@ use lib.Dec.{ltb}
 use lib.ListN.{length, getD, List·getD-eq-default}
 use Rattle.rules.specs.Sizes.{mostDesks, mostClasses, mostProcesses, mostFiles, mostRights, table}
 use Rattle.rules.specs.Setups.{rightBoth, deskOf, classOf, rightOf, classesAt, accepted, SetupBytes, givenRight, setupFrom, blankSetup}
-use Rattle.rules.specs.Stores.{sheetOf, freshStore, fits, misfit}
-use Rattle.rules.specs.Calls.{Numbers, changeable, callOf, answerTo, nextStore}
+use Rattle.rules.specs.Stores.{freshStore, fits, misfit}
+use Rattle.rules.specs.Calls.{callOf, answerTo, nextStore}
+use Rattle.rules.specs.Parts.{changeable}
 use Rattle.rules.specs.Refusals.{setupRefusal, callRefusal, freshRefusal, judgeRefusal, numbersRefusal}
 use Rattle.rules.specs.Entries.{unless, acceptance, freshness, outcome, called, ran}
+use Rattle.rules.specs.declared.Numbers.{Numbers}
 use Rattle.rules.specs.declared.Setup.{Setup}
 use Rattle.rules.specs.declared.Store.{Store}
 use Rattle.rules.specs.declared.Answer.the-variants.{Refused}
@@ -26,7 +28,7 @@ use Rattle.rules.proofs.Told.{unless-refused}
 use Rattle.rules.proofs.Lists.{by-test, cond-holds}
 use Rattle.rules.proofs.Sizes.{length-table, getD-table, table-is}
 use Rattle.rules.proofs.Setups.{Entries, classesAt-before, classesAt-past, accepted-iff, accepted-sizes, deskOf-lt, classOf-lt, rightOf-lt, rightOf-past, deskOf-past, classOf-past}
-use Rattle.rules.proofs.Stores.{freshStore-fits}
+use Rattle.rules.proofs.Stores.{freshStore-fits, Kept, kept}
 use Rattle.rules.proofs.Calls.{nextStore-fits, nextStore-other}
 use Rattle.rules.proofs.Refusals.{judgeRefusal-iff, callRefusal-iff, callRefusal-judged, numbers-exist, setupRefusal-iff}
 
@@ -66,15 +68,15 @@ module _ (s : Setup) (m : Store) (n : Numbers) where
       outcome-holds (λ (x : Store). fits s x ≡ true) s m n (callRefusal s m n) e
       (λ q. let h = callRefusal-iff s m n .0 q in numbers-fit (judgeRefusal-iff s m .0 (h .0) .0) e (h .1))
 
-  -- every call changes at most one file, refused or not, whoever looks
-  pub called-other : (q g : ℕ) → q < mostProcesses → g ≢ changeable (callOf n) → sheetOf (called s m n .store) q g ≡ sheetOf m q g
+  -- every call changes at most one file, refused or not
+  pub called-other : (g : ℕ) → g ≢ changeable (callOf n) → Kept g m (called s m n .store)
   unfolding called
-  called-other q g l h =
-      outcome-holds (λ (x : Store). sheetOf x q g ≡ sheetOf m q g) s m n (callRefusal s m n) refl
+  called-other g h =
+      outcome-holds (λ (x : Store). Kept g m x) s m n (callRefusal s m n) kept
       (λ e.
       let (judged, sound) = callRefusal-iff s m n .0 e in
       let most = accepted-sizes s (judgeRefusal-iff s m .0 judged .0) .of-processes .high in
-      nextStore-other s m (callOf n) q g (omega (arith, numbers-exist s n sound .process, most)) l h)
+      nextStore-other s m (callOf n) g (omega (arith, numbers-exist s n sound .process, most)) h)
 
 -- the three runs of a setup have the lengths that its type gives them
 pub record Shaped (s : Setup) : Type 0 where

@@ -1,13 +1,13 @@
--- The laws of the definitions in specs/: a file for each of theirs, Codes, Turns, Numbers and Quads on parts of the calls and entries,
+-- The laws of the definitions in specs/: a file for each of theirs, Codes, Decodes and Quads on parts of the calls and entries,
 -- and Lists, Told, Passed and Filled on lists, tests and loops.
 pub mod Answers
 pub mod Calls
 pub mod Codes
+pub mod Decodes
 pub mod Entries
 pub mod Filled
 pub mod Links
 pub mod Lists
-pub mod Numbers
 pub mod Passed
 pub mod Quads
 pub mod Refusals
@@ -15,4 +15,3 @@ pub mod Setups
 pub mod Sizes
 pub mod Stores
 pub mod Told
-pub mod Turns

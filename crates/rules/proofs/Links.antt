@@ -10,8 +10,8 @@ use borrow.Author.Tests.{ltb-true, ltb-false, eqb-true, lt-ltb, le-ltb, eq-eqb}
 use lib.Dec.{ltb, eqb}
 use Rattle.rules.specs.Sizes.{someBelow}
 use Rattle.rules.specs.Setups.{hasR, hasW, deskOf, classOf, rightOf}
-use Rattle.rules.specs.Calls.{Numbers}
 use Rattle.rules.specs.Links.{deskOfCall, hasProcess, serves, linked}
+use Rattle.rules.specs.declared.Numbers.{Numbers}
 use Rattle.rules.specs.declared.Setup.{Setup}
 use Rattle.rules.proofs.Lists.{by-test}
 use Rattle.rules.proofs.Sizes.{someBelow-iff}

@@ -2,12 +2,13 @@
 -- Assumes nothing.
 use Prim.Native.Nat.{ℕ, zero, suc, _<_}
 use mathlib.Core.Path.{_≡_, refl, ap}
-use mathlib.Core.Bool.{Bool, true, false, _&&_, _||_, cond, true≢false, false≢true}
+use mathlib.Core.Bool.{Bool, true, false, _&&_, _||_, cond, and-eq-true-iff, true≢false, false≢true}
 use mathlib.Core.Logic.{_↔_}
-use mathlib.Core.List.{List, [], _∷_}
+use mathlib.Core.List.{List, [], _∷_, foldl}
 use mathlib.Core.Option.{some}
 use native.Mathlib.Nat.{not-suc-le-zero, le-of-suc-le-suc}
 use lib.ListN.{length, getD, getElem?, set, replicate}
+use Rattle.rules.specs.Setups.{allOf}
 
 -- what follows from a test's passing and from its failing follows
 pub by-test {ℓ} : {C : Type ℓ} (b : Bool) → (b ≡ true → C) → (b ≡ false → C) → C
@@ -19,12 +20,23 @@ pub cond-holds {ℓ κ} : {A : Type ℓ} (P : A → Type κ) (b : Bool) {x y : A
 cond-holds P true f g = f refl
 cond-holds P false f g = g refl
 
--- four tests joined pass exactly where each does
-pub all-four : (a b c d : Bool) → (a && b && c && d ≡ true) ↔ ((a ≡ true) × (b ≡ true) × (c ≡ true) × (d ≡ true))
-all-four true true true d = (λ e. (refl, refl, refl, e), λ h. h .3)
-all-four true true false d = (λ e. absurd (false≢true e), λ h. h .2)
-all-four true false c d = (λ e. absurd (false≢true e), λ h. h .1)
-all-four false b c d = (λ e. absurd (false≢true e), λ h. h .0)
+-- each condition of a list holds
+abbrev pub Met : List Bool → Type 0
+Met [] = Unit {0}
+Met (c ∷ cs) = (c ≡ true) × Met cs
+
+-- all of a list hold exactly where each does
+pub met-iff : (conditions : List Bool) → (allOf conditions ≡ true) ↔ Met conditions
+met-iff conditions = let i = joined true conditions in (λ e. i .0 e .1, λ m. i .1 (refl, m))
+  where
+    joined : (held : Bool) (cs : List Bool) → (foldl _&&_ held cs ≡ true) ↔ ((held ≡ true) × Met cs)
+    joined held [] = (λ e. (e, tt), λ m. m .0)
+    joined held (c ∷ cs) =
+        let i = joined (held && c) cs in
+        let b = and-eq-true-iff held c in (
+          λ e. let (h, m) = i .0 e in (b .0 h .0, (b .0 h .1, m)),
+          λ m. i .1 (b .1 (m .0, m .1 .0), m .1 .1),
+        )
 
 -- not one of two tests passes exactly where both fail
 pub neither : (a b : Bool) → (a || b ≡ false) ↔ ((a ≡ false) × (b ≡ false))

@@ -6,7 +6,8 @@ use mathlib.Core.List.{List, [], _∷_, _++_}
 use native.Mathlib.Nat.{suc-add, not-suc-le-zero, le-of-suc-le-suc}
 use native.Mathlib.Omega.{arith}
 use lib.ListN.{length, getD}
-use Rattle.rules.specs.Calls.{Numbers, numbers, callWidth, callsIn, numbersAt, callsOf, inQuads}
+use Rattle.rules.specs.Calls.{numbers, callWidth, callsIn, numbersAt, callsOf, inQuads}
+use Rattle.rules.specs.declared.Numbers.{Numbers}
 use Rattle.rules.proofs.Sizes.{table-is}
 
 pub inQuads-append : (xs ys : List Numbers) → inQuads (xs ++ ys) ≡ inQuads xs ++ inQuads ys

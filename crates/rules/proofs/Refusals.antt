@@ -2,7 +2,7 @@
 -- Assumes nothing.
 use Prim.Native.Nat.{ℕ, zero, suc, _+_, _*_, _<_, _≤_}
 use mathlib.Core.Path.{_≡_, refl, ap, sym, _∙_}
-use mathlib.Core.Bool.{Bool, true, false, not, _&&_, _||_, cond, and-eq-true-iff, true≢false}
+use mathlib.Core.Bool.{Bool, true, false, not, _&&_, _||_, cond, true≢false}
 use mathlib.Core.Logic.{_↔_, _≢_}
 use mathlib.Core.List.{List, [], _∷_, _++_}
 use native.Mathlib.Omega.{arith}
@@ -12,14 +12,15 @@ use lib.ListN.{length, getD}
 use Rattle.rules.specs.Sizes.{every, someBelow}
 use Rattle.rules.specs.Setups.{SetupBytes, rightBoth, entryFits, accepted}
 use Rattle.rules.specs.Stores.{fits}
-use Rattle.rules.specs.Calls.{Numbers, firstCode, lastCode, codeOfWrite, codeOfCopy, callOf}
-use Rattle.rules.specs.Refusals.{Refusal, firstOf, slicesMatch, someFrom, setupOrder, numbersOrder}
+use Rattle.rules.specs.Calls.{firstCode, lastCode, codeOfWrite, codeOfCopy, callOf}
+use Rattle.rules.specs.Refusals.{Refusal, firstOf, slicesAsked, slicesMatch, someFrom, setupOrder, numbersOrder}
 use Rattle.rules.specs.Refusals.{refusal5, refusal7, refusal8, refusal9, refusal15, refusal16}
 use Rattle.rules.specs.Refusals.{setupRefusal, callRefusal, freshRefusal, judgeRefusal, numbersRefusal}
 use Rattle.rules.specs.Entries.{unless}
+use Rattle.rules.specs.declared.Numbers.{Numbers}
 use Rattle.rules.specs.declared.Setup.{Setup}
 use Rattle.rules.specs.declared.Store.{Store}
-use Rattle.rules.proofs.Lists.{by-test, neither, not-both}
+use Rattle.rules.proofs.Lists.{by-test, met-iff, neither, not-both}
 use Rattle.rules.proofs.Sizes.{every-at, every-true, every-cong}
 use Rattle.rules.proofs.Setups.{WithinSizes, withinSizes-iff}
 use Rattle.rules.proofs.Codes.{Exists, processOf-callOf, fileOf-callOf, changeable-holds}
@@ -209,28 +210,24 @@ unfolding setupRefusal slicesMatch
 setupRefusal-iff b =
     let i = unmet-iff (setupOrder b) (omega arith) in
     let sizes = withinSizes-iff (b .desks) (b .classes) (b .processes) (b .files) in
-    let rights = eqb (length (b .rights)) (b .desks * b .classes) in
-    let desk = eqb (length (b .desk)) (b .processes) in
-    let class = eqb (length (b .class)) (b .files) in
-    let two = and-eq-true-iff rights desk in
-    let three = and-eq-true-iff (rights && desk) class in
+    let slices = met-iff (slicesAsked b) in
     let right-lt = someFrom-iff (rightBoth + 1) (b .rights) in
     let desk-lt = someFrom-iff (b .desks) (b .desk) in
     let class-lt = someFrom-iff (b .classes) (b .class) in (
       λ e.
-          let u = i .0 e in
-          let m = three .0 (not-false (slicesMatch b) (u .1 .0)) in
+          let (u1, (u10, (u2, (u3, (u4, _))))) = i .0 e in
+          let (lr, (ld, (lc, _))) = slices .0 (not-false (slicesMatch b) u10) in
           record {
-            sizes = sizes .0 (not-false _ (u .0));
-            rights-length = eqb-true (length (b .rights)) (b .desks * b .classes) (two .0 (m .0) .0);
-            desk-length = eqb-true (length (b .desk)) (b .processes) (two .0 (m .0) .1);
-            class-length = eqb-true (length (b .class)) (b .files) (m .1);
-            right-lt = right-lt .0 (u .1 .1 .0);
-            desk-lt = desk-lt .0 (u .1 .1 .1 .0);
-            class-lt = class-lt .0 (u .1 .1 .1 .1 .0);
+            sizes = sizes .0 (not-false _ u1);
+            rights-length = eqb-true _ _ lr;
+            desk-length = eqb-true _ _ ld;
+            class-length = eqb-true _ _ lc;
+            right-lt = right-lt .0 u2;
+            desk-lt = desk-lt .0 u3;
+            class-lt = class-lt .0 u4;
           },
       λ h.
-          let matched : slicesMatch b ≡ true = three .1 (two .1 (eq-eqb _ _ (h .rights-length), eq-eqb _ _ (h .desk-length)), eq-eqb _ _ (h .class-length)) in
+          let matched : slicesMatch b ≡ true = slices .1 (eq-eqb _ _ (h .rights-length), (eq-eqb _ _ (h .desk-length), (eq-eqb _ _ (h .class-length), tt))) in
           i .1 (
             ap not (sizes .1 (h .sizes)),
             (ap not matched, (right-lt .1 (h .right-lt), (desk-lt .1 (h .desk-lt), (class-lt .1 (h .class-lt), tt)))),

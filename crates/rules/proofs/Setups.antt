@@ -8,9 +8,10 @@ use native.Mathlib.Omega.{arith}
 use borrow.Author.Tests.{ltb-true, ltb-false, leb-true, eqb-true, lt-ltb, le-ltb, le-leb, eq-eqb}
 use lib.Dec.{ltb, leb, eqb}
 use Rattle.rules.specs.Sizes.{least, mostDesks, mostClasses, mostProcesses, mostFiles, within, every}
-use Rattle.rules.specs.Setups.{rightBoth, deskOf, classOf, rightOf, withinSizes, entryFits, classesAt, rowFits, rightsFit, desksFit, classesFit, accepted, blankSetup}
+use Rattle.rules.specs.Setups.{rightBoth, deskOf, classOf, rightOf, sizesAsked, withinSizes, blankSetup}
+use Rattle.rules.specs.Setups.{entryFits, classesAt, rowFits, rightsFit, desksFit, classesFit, setupAsked, accepted}
 use Rattle.rules.specs.declared.Setup.{Setup}
-use Rattle.rules.proofs.Lists.{by-test, cond-holds, all-four}
+use Rattle.rules.proofs.Lists.{by-test, cond-holds, met-iff}
 use Rattle.rules.proofs.Sizes.{every-at, every-true}
 
 -- a count lies inside its sizes
@@ -40,9 +41,11 @@ withinSizes-iff desks classes processes files =
     let t = within-iff classes mostClasses in
     let p = within-iff processes mostProcesses in
     let f = within-iff files mostFiles in
-    let all = all-four (within desks mostDesks) (within classes mostClasses) (within processes mostProcesses) (within files mostFiles) in (
-      λ e. let h = all .0 e in record { of-desks = d .0 (h .0); of-classes = t .0 (h .1); of-processes = p .0 (h .2); of-files = f .0 (h .3) },
-      λ w. all .1 (d .1 (w .of-desks), t .1 (w .of-classes), p .1 (w .of-processes), f .1 (w .of-files)),
+    let all = met-iff (sizesAsked desks classes processes files) in (
+      λ e.
+          let (hd, (ht, (hp, (hf, _)))) = all .0 e in
+          record { of-desks = d .0 hd; of-classes = t .0 ht; of-processes = p .0 hp; of-files = f .0 hf },
+      λ w. all .1 (d .1 (w .of-desks), (t .1 (w .of-classes), (p .1 (w .of-processes), (f .1 (w .of-files), tt)))),
     )
 
 -- entries before the count are below their bound, and those past it are 0
@@ -99,18 +102,21 @@ pub record Acceptable (s : Setup) : Type 0 where
 pub accepted-iff : (s : Setup) → (accepted s ≡ true) ↔ Acceptable s
 unfolding accepted rowFits rightsFit desksFit classesFit
 accepted-iff s =
-    let w = withinSizes-iff (s .desks) (s .classes) (s .processes) (s .files) in
-    let d = entries-iff mostProcesses (s .processes) (s .desks) (deskOf s) in
-    let c = entries-iff mostFiles (s .files) (s .classes) (classOf s) in
-    let all = all-four (withinSizes (s .desks) (s .classes) (s .processes) (s .files)) (rightsFit s) (desksFit s) (classesFit s) in (
+    let sizes = withinSizes-iff (s .desks) (s .classes) (s .processes) (s .files) in
+    let desk = entries-iff mostProcesses (s .processes) (s .desks) (deskOf s) in
+    let class = entries-iff mostFiles (s .files) (s .classes) (classOf s) in
+    let all = met-iff (setupAsked s) in (
       λ e.
-          let h = all .0 e in
-          record { sizes = w .0 (h .0); right = λ i l. row i .0 (every-at mostDesks (rowFits s) (h .1) i l); desk = d .0 (h .2); class = c .0 (h .3) },
-      λ a. all .1 (w .1 (a .sizes), every-true mostDesks (rowFits s) (λ i l. row i .1 (a .right i l)), d .1 (a .desk), c .1 (a .class)),
+          let (w, (r, (d, (c, _)))) = all .0 e in
+          record { sizes = sizes .0 w; right = right .0 r; desk = desk .0 d; class = class .0 c },
+      λ a. all .1 (sizes .1 (a .sizes), (right .1 (a .right), (desk .1 (a .desk), (class .1 (a .class), tt)))),
     )
   where
     row : (d : ℕ) → (rowFits s d ≡ true) ↔ Entries mostClasses (classesAt s d) (rightBoth + 1) (rightOf s d)
     row d = entries-iff mostClasses (classesAt s d) (rightBoth + 1) (rightOf s d)
+
+    right : (rightsFit s ≡ true) ↔ ((d : ℕ) → d < mostDesks → Entries mostClasses (classesAt s d) (rightBoth + 1) (rightOf s d))
+    right = (λ e d l. row d .0 (every-at mostDesks (rowFits s) e d l), λ h. every-true mostDesks (rowFits s) (λ d l. row d .1 (h d l)))
 
 module _ (s : Setup) (e : accepted s ≡ true) where
   -- an accepted setup's counts lie inside their sizes

@@ -1,4 +1,5 @@
--- Laws of stores: where a mark lies, which stores fit, and that a store with a fitting sheet put in place still fits.
+-- Laws of stores: where a mark lies, which stores fit, what a holder, a content or a mark put in place leaves, and that a store
+-- with one that fits still fits.
 -- Assumes nothing.
 use Prim.Native.Nat.{ℕ, _<_, _≤_}
 use mathlib.Core.Path.{_≡_, refl}
@@ -7,13 +8,12 @@ use mathlib.Core.Logic.{_↔_, _≢_}
 use native.Mathlib.Omega.{arith}
 use borrow.Author.Tests.{ltb-true, ltb-false, lt-ltb, le-ltb}
 use lib.Dec.{ltb, eqb}
-use lib.ListN.{length, set}
-use lib.Seq.{set-getD, set-out, getD-set-same, getD-set-other}
+use lib.ListN.{getD-replicate}
+use lib.Seq.{set-getD, getD-set-other}
 use Rattle.rules.specs.Sizes.{mostProcesses, mostFiles, mostMarks, every}
-use Rattle.rules.specs.Stores.{unlocked, isBlank, blankContent, holderOf, contentOf, markAt, markOf, sheetOf, withSheet, freshStore, holderFits, markFits, marksFit, fileIsBlank, fileFits, fits, misfit}
+use Rattle.rules.specs.Stores.{unlocked, isBlank, blankContent, pastContents, holderOf, contentOf, markAt, markOf, putHolder, putContent, putMark, freshStore, holderFits, markFits, marksFit, fileIsBlank, fileFits, fits, misfit}
 use Rattle.rules.specs.declared.Setup.{Setup}
 use Rattle.rules.specs.declared.Content.{Content}
-use Rattle.rules.specs.declared.Sheet.{Sheet}
 use Rattle.rules.specs.declared.Store.{Store}
 use Rattle.rules.proofs.Lists.{cond-holds, set-holds, getD-alike}
 use Rattle.rules.proofs.Sizes.{every-at, every-true, every-false}
@@ -74,44 +74,72 @@ pub fits-at : (s : Setup) (m : Store) → fits s m ≡ true → (f : ℕ) → f 
 unfolding fits
 fits-at s m e f l = fileFits-tells s f _ _ _ (every-at mostFiles _ e f l)
 
--- a sheet with a holder and a mark that fit, put in place, keeps a store fitting
-pub fits-withSheet : (s : Setup) (m : Store) (p f : ℕ) (sheet : Sheet) → p < mostProcesses → f < s .files → fits s m ≡ true
-    → holderFits s f (sheet .holder) ≡ true → markFits s f p (sheet .mark) ≡ true → fits s (withSheet m p f sheet) ≡ true
+-- and a store fits whose files all do
+fits-by : (s : Setup) (m : Store) → ((f : ℕ) → f < mostFiles → FileFits s f (holderOf m f) (contentOf m f) (markOf m f)) → fits s m ≡ true
 unfolding fits
-fits-withSheet s m p f sheet b x e h k =
-    every-true mostFiles _
-    (λ g l.
-    let old = fits-at s m e g l in
-    fileFits-told s g _ _ _
-    (record {
-      holder-fits = λ c. set-holds (λ (n : ℕ). holderFits s g n ≡ true) (m .holders) f g (sheet .holder) 0 (old .holder-fits c) (λ q. rw q h);
-      mark-fits =
-          λ c q d.
-          set-holds (λ (n : ℕ). markFits s g q n ≡ true) (m .marks) (markAt f p) (markAt g q) (sheet .mark) 0 (old .mark-fits c q d)
-          (λ i. let (same, own) = markAt-apart g f q p d b i in rw (same, own) k);
-      holder-blank = λ c. set-holds (λ (n : ℕ). unlocked n ≡ true) (m .holders) f g (sheet .holder) 0 (old .holder-blank c) (λ q. absurd (omega arith));
-      mark-blank =
-          λ c q d.
-          set-holds (λ (n : ℕ). eqb n 0 ≡ true) (m .marks) (markAt f p) (markAt g q) (sheet .mark) 0 (old .mark-blank c q d)
-          (λ i. absurd (omega (arith, markAt-apart g f q p d b i .0)));
-      content-blank =
-          λ c. set-holds (λ (n : Content). isBlank n ≡ true) (m .contents) f g (sheet .content) blankContent (old .content-blank c) (λ q. absurd (omega arith));
-    }))
+fits-by s m h = every-true mostFiles _ (λ f l. fileFits-told s f _ _ _ (h f l))
+
+-- a holder that fits, any content, and a mark that fits, put in the place of a file before F, keep a store fitting
+module _ (s : Setup) (m : Store) (f : ℕ) (x : f < s .files) (e : fits s m ≡ true) where
+  pub fits-putHolder : (holder : ℕ) → holderFits s f holder ≡ true → fits s (putHolder m f holder) ≡ true
+  fits-putHolder holder h =
+      fits-by s _
+      (λ g l.
+      let old = fits-at s m e g l in
+      record {
+        holder-fits = λ c. set-holds (λ (n : ℕ). holderFits s g n ≡ true) (m .holders) f g holder 0 (old .holder-fits c) (λ q. rw q h);
+        mark-fits = old .mark-fits;
+        holder-blank = λ c. set-holds (λ (n : ℕ). unlocked n ≡ true) (m .holders) f g holder 0 (old .holder-blank c) (λ q. absurd (omega arith));
+        mark-blank = old .mark-blank;
+        content-blank = old .content-blank;
+      })
+
+  pub fits-putContent : (content : Content) → fits s (putContent m f content) ≡ true
+  fits-putContent content =
+      fits-by s _
+      (λ g l.
+      let old = fits-at s m e g l in
+      record {
+        holder-fits = old .holder-fits;
+        mark-fits = old .mark-fits;
+        holder-blank = old .holder-blank;
+        mark-blank = old .mark-blank;
+        content-blank =
+            λ c. set-holds (λ (n : Content). isBlank n ≡ true) (m .contents) f g content pastContents (old .content-blank c) (λ q. absurd (omega arith));
+      })
+
+  pub fits-putMark : (p mark : ℕ) → p < mostProcesses → markFits s f p mark ≡ true → fits s (putMark m f p mark) ≡ true
+  fits-putMark p mark b h =
+      fits-by s _
+      (λ g l.
+      let old = fits-at s m e g l in
+      record {
+        holder-fits = old .holder-fits;
+        mark-fits =
+            λ c q d.
+            set-holds (λ (n : ℕ). markFits s g q n ≡ true) (m .marks) (markAt f p) (markAt g q) mark 0 (old .mark-fits c q d)
+            (λ i. let (same, own) = markAt-apart g f q p d b i in rw (same, own) h);
+        holder-blank = old .holder-blank;
+        mark-blank =
+            λ c q d.
+            set-holds (λ (n : ℕ). eqb n 0 ≡ true) (m .marks) (markAt f p) (markAt g q) mark 0 (old .mark-blank c q d)
+            (λ i. absurd (omega (arith, markAt-apart g f q p d b i .0)));
+        content-blank = old .content-blank;
+      })
 
 -- every setup has a fresh store that fits
 pub freshStore-fits : (s : Setup) → fits s freshStore ≡ true
-unfolding fits freshStore holderFits markFits
+unfolding freshStore holderFits markFits
 freshStore-fits s =
-    every-true mostFiles _
+    fits-by s _
     (λ f l.
-    fileFits-told s f _ _ _
-    (record {
+    record {
       holder-fits = λ c. rw (getD-alike {A = ℕ} mostFiles f 0);
       mark-fits = λ c p d. rw (getD-alike {A = ℕ} mostMarks (markAt f p) 0);
       holder-blank = λ c. rw (getD-alike {A = ℕ} mostFiles f 0);
       mark-blank = λ c p d. rw (getD-alike {A = ℕ} mostMarks (markAt f p) 0);
-      content-blank = λ c. rw (getD-alike mostFiles f blankContent);
-    }))
+      content-blank = λ c. rw (getD-replicate mostFiles f blankContent pastContents l);
+    })
 
 -- the stand-in for a refused fresh store fits no setup
 pub misfit-fits-none : (s : Setup) → fits s misfit ≡ false
@@ -121,34 +149,38 @@ misfit-fits-none s =
     (cond-holds (λ (b : Bool). b ≡ false) (ltb 0 (s .files)) (λ t. every-false mostProcesses _ 0 (omega arith) refl)
     (λ t. rw (every-false mostProcesses (λ p. eqb (markOf misfit 0 p) 0) 0 (omega arith) refl)))
 
--- a sheet put in place stands there
-pub sheetOf-same : (m : Store) (p f : ℕ) (sheet : Sheet) → f < length (m .holders) → f < length (m .contents) → markAt f p < length (m .marks)
-    → sheetOf (withSheet m p f sheet) p f ≡ sheet
-sheetOf-same m p f sheet h c k =
-    λ i.
-    record {
-      holder = getD-set-same (m .holders) f (sheet .holder) 0 h i;
-      content = getD-set-same (m .contents) f (sheet .content) blankContent c i;
-      mark = getD-set-same (m .marks) (markAt f p) (sheet .mark) 0 k i;
-    }
+-- what stands at a file's place, put there again, changes nothing
+module _ (m : Store) (f : ℕ) where
+  pub putHolder-own : putHolder m f (holderOf m f) ≡ m
+  putHolder-own = rw set-getD
 
--- every other file stands as it stood, whoever looks
-pub sheetOf-other : (m : Store) (p q f g : ℕ) (sheet : Sheet) → p < mostProcesses → q < mostProcesses → g ≢ f
-    → sheetOf (withSheet m p f sheet) q g ≡ sheetOf m q g
-sheetOf-other m p q f g sheet k l h =
-    λ i.
-    record {
-      holder = getD-set-other (m .holders) f g (sheet .holder) 0 h i;
-      content = getD-set-other (m .contents) f g (sheet .content) blankContent h i;
-      mark = getD-set-other (m .marks) (markAt f p) (markAt g q) (sheet .mark) 0 (λ e. h (markAt-apart g f q p l k e .0)) i;
-    }
+  pub putContent-own : putContent m f (contentOf m f) ≡ m
+  putContent-own = rw set-getD
 
--- a store with its own sheet put in place is the same store
-pub withSheet-own : (m : Store) (p f : ℕ) → withSheet m p f (sheetOf m p f) ≡ m
-withSheet-own m p f =
-    λ i.
-    record {
-      holders = set-getD (m .holders) f 0 i;
-      contents = set-getD (m .contents) f blankContent i;
-      marks = set-getD (m .marks) (markAt f p) 0 i;
-    }
+  pub putMark-own : (p : ℕ) → putMark m f p (markOf m f p) ≡ m
+  putMark-own p = rw set-getD
+
+-- file g stands as it stood, whoever looks
+pub record Kept (g : ℕ) (m k : Store) : Type 0 where
+  pub holder : holderOf k g ≡ holderOf m g
+  pub content : contentOf k g ≡ contentOf m g
+  pub mark : (q : ℕ) → q < mostProcesses → markOf k g q ≡ markOf m g q
+
+pub kept : {g : ℕ} {m : Store} → Kept g m m
+kept = record { holder = refl; content = refl; mark = λ q l. refl }
+
+-- what is put in the place of one file leaves every other
+module _ (m : Store) (f g : ℕ) (h : g ≢ f) where
+  pub putHolder-other : (holder : ℕ) → Kept g m (putHolder m f holder)
+  putHolder-other holder = record { holder = getD-set-other (m .holders) f g holder 0 h; content = refl; mark = λ q l. refl }
+
+  pub putContent-other : (content : Content) → Kept g m (putContent m f content)
+  putContent-other content = record { holder = refl; content = getD-set-other (m .contents) f g content pastContents h; mark = λ q l. refl }
+
+  pub putMark-other : (p mark : ℕ) → p < mostProcesses → Kept g m (putMark m f p mark)
+  putMark-other p mark k =
+      record {
+        holder = refl;
+        content = refl;
+        mark = λ q l. getD-set-other (m .marks) (markAt f p) (markAt g q) mark 0 (λ e. h (markAt-apart g f q p l k e .0));
+      }

@@ -19,6 +19,6 @@ kindOf answer = numbersOf answer .0
 abbrev pub valueOf : Answer → ℕ
 valueOf answer = numbersOf answer .1
 
--- the answer that two numbers stand for, in the order of their kinds
+-- the answer that two numbers stand for, in the order of their kinds; "nothing" past them. For the printing, which writes answers from a list
 abbrev pub answerOf : ℕ × ℕ → Answer
 answerOf n = getD (Nothing ∷ Figure (n .1) ∷ Yes ∷ No ∷ Refused (n .1) ∷ []) (n .0) Nothing

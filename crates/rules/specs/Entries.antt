@@ -1,12 +1,12 @@
--- What each entry answers, refusals too, as one function of what it is handed.
+-- What the entries *accept*, *fresh* and *call* answer, refusals too, each as one function of what it is handed.
 use Prim.Native.Nat.{ℕ, zero, suc}
 use Rattle.rules.specs.Setups.{SetupBytes, setupFrom, blankSetup}
 use Rattle.rules.specs.Stores.{freshStore, misfit}
-use Rattle.rules.specs.Calls.{Numbers, callOf, answerTo, nextStore}
+use Rattle.rules.specs.Calls.{callOf, answerTo, nextStore}
 use Rattle.rules.specs.Refusals.{setupRefusal, freshRefusal, numbersRefusal, callRefusal}
+use Rattle.rules.specs.declared.Numbers.{Numbers}
 use Rattle.rules.specs.declared.Setup.{Setup}
 use Rattle.rules.specs.declared.Store.{Store}
-use Rattle.rules.specs.declared.Call.{Call}
 use Rattle.rules.specs.declared.Answer.the-variants.{Refused}
 use Rattle.rules.specs.declared.Decoded.{Decoded}
 use Rattle.rules.specs.declared.Decoded.the-variants.{Is, Not}
@@ -30,7 +30,7 @@ freshness s =
     let n = freshRefusal s in
     record { refusal = n; store = unless n freshStore misfit }
 
--- four numbers as a call, or their refusal
+-- for the decoding, which is no entry: four numbers as a call, or their refusal
 unfoldable pub decoded : Setup → Numbers → Decoded
 decoded s n =
     let r = numbersRefusal s n in

@@ -1,4 +1,4 @@
--- What a reader must believe of the rules, in the order of document 01.
+-- What a reader must believe of the rules, in the order of document 01; and Parts, which no entry's promise cites.
 pub mod Sizes
 pub mod Setups
 pub mod Stores
@@ -7,3 +7,4 @@ pub mod Answers
 pub mod Refusals
 pub mod Entries
 pub mod Links
+pub mod Parts

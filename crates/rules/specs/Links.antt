@@ -5,7 +5,7 @@ use mathlib.Core.Option.{Option, some, none}
 use lib.Dec.{ltb, eqb}
 use Rattle.rules.specs.Sizes.{someBelow}
 use Rattle.rules.specs.Setups.{hasR, hasW, deskOf, classOf, rightOf}
-use Rattle.rules.specs.Calls.{Numbers}
+use Rattle.rules.specs.declared.Numbers.{Numbers}
 use Rattle.rules.specs.declared.Setup.{Setup}
 
 -- "A call belongs to the desk of its process. A call whose process does not exist belongs to none"

@@ -1,13 +1,14 @@
--- 01, "Refusal numbers": what each is given for, and the orders in which they are judged.
+-- 01, "Refusal numbers": what each is given for, and the orders in which they are judged; those of lists, routes and texts stand with these.
 use Prim.Native.Nat.{ℕ, _+_, _*_}
 use mathlib.Core.Bool.{Bool, not, _&&_, _||_, cond}
 use mathlib.Core.List.{List, [], _∷_}
 use lib.Dec.{ltb, leb, eqb}
 use lib.ListN.{length, getD}
 use Rattle.rules.specs.Sizes.{someBelow}
-use Rattle.rules.specs.Setups.{SetupBytes, rightBoth, withinSizes, accepted}
+use Rattle.rules.specs.Setups.{SetupBytes, rightBoth, allOf, withinSizes, accepted}
 use Rattle.rules.specs.Stores.{fits}
-use Rattle.rules.specs.Calls.{Numbers, firstCode, lastCode, codeOfWrite, codeOfCopy}
+use Rattle.rules.specs.Calls.{firstCode, lastCode, codeOfWrite, codeOfCopy}
+use Rattle.rules.specs.declared.Numbers.{Numbers}
 use Rattle.rules.specs.declared.Setup.{Setup}
 use Rattle.rules.specs.declared.Store.{Store}
 
@@ -28,10 +29,16 @@ firstOf (r ∷ rs) = cond (r .0) (r .1) (firstOf rs)
 unfoldable pub someFrom : ℕ → List ℕ → Bool
 someFrom bound entries = someBelow (length entries) (λ i. leb bound (getD entries i 0))
 
+-- each slice is as long as its counts say
+abbrev pub slicesAsked : SetupBytes → List Bool
+slicesAsked b =
+    eqb (length (b .rights)) (b .desks * b .classes)
+    ∷ eqb (length (b .desk)) (b .processes)
+    ∷ eqb (length (b .class)) (b .files)
+    ∷ []
+
 unfoldable pub slicesMatch : SetupBytes → Bool
-slicesMatch b =
-    eqb (length (b .rights)) (b .desks * b .classes) && eqb (length (b .desk)) (b .processes)
-    && eqb (length (b .class)) (b .files)
+slicesMatch b = allOf (slicesAsked b)
 
 -- "a setup count lies outside its sizes"
 abbrev pub refusal1 : SetupBytes → Refusal

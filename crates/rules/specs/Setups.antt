@@ -1,7 +1,7 @@
 -- 01, "Sizes": a setup, when it is accepted, and the setup that bytes give.
 use Prim.Native.Nat.{ℕ, _+_, _*_, _/_, _%_}
-use mathlib.Core.Bool.{Bool, _&&_, _||_, cond}
-use mathlib.Core.List.{List}
+use mathlib.Core.Bool.{Bool, true, _&&_, _||_, cond}
+use mathlib.Core.List.{List, [], _∷_, foldl}
 use lib.Dec.{ltb, eqb}
 use lib.ListN.{getD, replicate}
 use Rattle.rules.specs.Sizes.{mostDesks, mostClasses, mostProcesses, mostFiles, mostRights, within, every, table}
@@ -40,9 +40,21 @@ mayRead s p f = hasR (rightOf s (deskOf s p) (classOf s f))
 unfoldable pub mayWrite : Setup → ℕ → ℕ → Bool
 mayWrite s p f = hasW (rightOf s (deskOf s p) (classOf s f))
 
+-- all of the conditions hold; they are joined from the left, as `&&` joins
+abbrev pub allOf : List Bool → Bool
+allOf conditions = foldl _&&_ true conditions
+
+-- each count lies inside its sizes
+abbrev pub sizesAsked : ℕ → ℕ → ℕ → ℕ → List Bool
+sizesAsked desks classes processes files =
+    within desks mostDesks
+    ∷ within classes mostClasses
+    ∷ within processes mostProcesses
+    ∷ within files mostFiles
+    ∷ []
+
 unfoldable pub withinSizes : ℕ → ℕ → ℕ → ℕ → Bool
-withinSizes desks classes processes files =
-    within desks mostDesks && within classes mostClasses && within processes mostProcesses && within files mostFiles
+withinSizes desks classes processes files = allOf (sizesAsked desks classes processes files)
 
 -- an entry before the count is below its bound; an entry past it is 0
 unfoldable pub entryFits : ℕ → ℕ → ℕ → ℕ → Bool
@@ -64,9 +76,18 @@ desksFit s = every mostProcesses (λ p. entryFits (s .processes) (s .desks) p (d
 unfoldable pub classesFit : Setup → Bool
 classesFit s = every mostFiles (λ f. entryFits (s .files) (s .classes) f (classOf s f))
 
--- a setup value that could have been accepted: "every entry past the counts is 0"
+-- what is asked of a setup value: "every entry past the counts is 0"
+abbrev pub setupAsked : Setup → List Bool
+setupAsked s =
+    withinSizes (s .desks) (s .classes) (s .processes) (s .files)
+    ∷ rightsFit s
+    ∷ desksFit s
+    ∷ classesFit s
+    ∷ []
+
+-- a setup value that could have been accepted
 unfoldable pub accepted : Setup → Bool
-accepted s = withinSizes (s .desks) (s .classes) (s .processes) (s .files) && rightsFit s && desksFit s && classesFit s
+accepted s = allOf (setupAsked s)
 
 -- "A setup handed in as bytes is the four counts, as numbers, and three slices"
 pub record SetupBytes : Type 0 where

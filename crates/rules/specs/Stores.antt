@@ -1,4 +1,4 @@
--- 01, "Sizes": a store, the fresh store, and when a store fits its setup.
+-- 01, "What the store is" and "Sizes": a store, the fresh store, and when a store fits its setup.
 use Prim.Native.Nat.{ℕ, _+_, _-_, _*_}
 use mathlib.Core.Bool.{Bool, _&&_, _||_, cond}
 use lib.Dec.{ltb, eqb}
@@ -7,7 +7,6 @@ use Rattle.rules.specs.Sizes.{mostProcesses, mostFiles, mostMarks, every
 use Rattle.rules.specs.Setups.{mayRead, mayWrite}
 use Rattle.rules.specs.declared.Setup.{Setup}
 use Rattle.rules.specs.declared.Content.{Content}
-use Rattle.rules.specs.declared.Sheet.{Sheet}
 use Rattle.rules.specs.declared.Store.{Store}
 
 -- a file's content is one figure, and 0 is blank
@@ -16,6 +15,10 @@ blankContent = record { figure = 0 }
 
 abbrev pub isBlank : Content → Bool
 isBlank content = eqb (content .figure) 0
+
+-- what stands past an array's end, for the logic; no file holds it
+abbrev pub pastContents : Content
+pastContents = record { figure = 0 }
 
 -- a file's holder is 0 where it is unlocked, else the process plus one; an open mark is 1
 abbrev pub unlocked : ℕ → Bool
@@ -32,7 +35,7 @@ abbrev pub holderOf : Store → ℕ → ℕ
 holderOf m f = getD (m .holders) f 0
 
 abbrev pub contentOf : Store → ℕ → Content
-contentOf m f = getD (m .contents) f blankContent
+contentOf m f = getD (m .contents) f pastContents
 
 -- the open marks lie file by file, one for each process
 abbrev pub markAt : ℕ → ℕ → ℕ
@@ -41,18 +44,19 @@ markAt f p = f * mostProcesses + p
 abbrev pub markOf : Store → ℕ → ℕ → ℕ
 markOf m f p = getD (m .marks) (markAt f p) 0
 
--- what process p meets of file f
-abbrev pub sheetOf : Store → ℕ → ℕ → Sheet
-sheetOf m p f = record { holder = holderOf m f; content = contentOf m f; mark = markOf m f p }
+-- "p has f open"
+abbrev pub hasOpen : Store → ℕ → ℕ → Bool
+hasOpen m p f = isOpen (markOf m f p)
 
--- the store with another sheet for process p and file f
-abbrev pub withSheet : Store → ℕ → ℕ → Sheet → Store
-withSheet m p f sheet =
-    record {
-      holders = set (m .holders) f (sheet .holder);
-      contents = set (m .contents) f (sheet .content);
-      marks = set (m .marks) (markAt f p) (sheet .mark);
-    }
+-- the store with another holder of file f, with another content of it, and with another mark of process p on it
+abbrev pub putHolder : Store → ℕ → ℕ → Store
+putHolder m f holder = record { holders = set (m .holders) f holder; contents = m .contents; marks = m .marks }
+
+abbrev pub putContent : Store → ℕ → Content → Store
+putContent m f content = record { holders = m .holders; contents = set (m .contents) f content; marks = m .marks }
+
+abbrev pub putMark : Store → ℕ → ℕ → ℕ → Store
+putMark m f p mark = record { holders = m .holders; contents = m .contents; marks = set (m .marks) (markAt f p) mark }
 
 -- nothing locked, all figures 0, and one mark throughout
 abbrev pub storeOf : ℕ → Store

@@ -1,4 +1,5 @@
-// The types of the store and its sizes. The rules over them are in specs/, their laws in proofs/; crates above have the code.
+// The types of the store, its sizes, and the names of refusals, kinds and codes. The rules over them are in specs/, their laws in proofs/;
+// crates above have the code.
 
 // The least and the most of each thing.
 pub const LEAST: u32 = 1;
@@ -26,7 +27,62 @@ pub const W: u8 = 2;
 
 pub const BOTH: u8 = 3;
 
-// The codes of the calls.
+// The refusals, by what each is given for.
+pub const COUNT_OUTSIDE: u32 = 1;
+
+pub const RIGHT_ABOVE: u32 = 2;
+
+pub const NO_SUCH_DESK: u32 = 3;
+
+pub const NO_SUCH_CLASS: u32 = 4;
+
+pub const NO_OPERATION: u32 = 5;
+
+pub const NO_PROCESS: u32 = 6;
+
+pub const NO_FILE: u32 = 7;
+
+pub const EXTRA_GIVEN: u32 = 8;
+
+pub const COPY_ONTO_ITSELF: u32 = 9;
+
+pub const WRONG_LENGTH: u32 = 10;
+
+pub const TOO_LITTLE_ROOM: u32 = 11;
+
+pub const NO_ROUTE_DESK: u32 = 12;
+
+pub const SAME_DESK: u32 = 13;
+
+pub const BREAKS_RULES: u32 = 14;
+
+pub const NOT_ACCEPTED: u32 = 15;
+
+pub const DOES_NOT_FIT: u32 = 16;
+
+// The kinds of answers.
+pub const KIND_NOTHING: u32 = 0;
+
+pub const KIND_FIGURE: u32 = 1;
+
+pub const KIND_YES: u32 = 2;
+
+pub const KIND_NO: u32 = 3;
+
+pub const KIND_REFUSED: u32 = 4;
+
+// The kind of a list that was run or a text that was read, and the kinds of a route report.
+pub const KIND_DONE: u32 = 0;
+
+pub const KIND_NO_ROUTE: u32 = 0;
+
+pub const KIND_ROUTE: u32 = 1;
+
+// The codes of the calls, from the first to the last.
+pub const FIRST_CODE: u32 = CODE_OF_READ;
+
+pub const LAST_CODE: u32 = CODE_OF_COPY;
+
 pub const CODE_OF_READ: u32 = 1;
 
 pub const CODE_OF_WRITE: u32 = 2;
@@ -71,11 +127,12 @@ pub struct Store {
     pub marks: [u8; MARKS],
 }
 
-// What a process meets of one file: its holder, its content, and the process's own open mark.
-pub struct Sheet {
-    pub holder: u32,
-    pub content: Content,
-    pub mark: u8,
+// A call as numbers: its operation, process p, file f and extra x. CALL_WIDTH counts them.
+pub struct Numbers {
+    pub operation: u32,
+    pub process: u32,
+    pub file: u32,
+    pub extra: u32,
 }
 
 // A call of process p on file f; the third number is WRITE's figure, and the file that COPY writes.
@@ -116,23 +173,6 @@ pub struct GivenSetup {
 pub struct GivenStore {
     pub refusal: u32,
     pub store: Store,
-}
-
-// What a call looks at: R on the class of its file f, W on the class of the file that it can change; of f whether the
-// process has it open, its holder and its content; and the process's sheet of the file that it can change.
-pub struct Looks {
-    pub r: bool,
-    pub w: bool,
-    pub opened: bool,
-    pub holder: u32,
-    pub content: Content,
-    pub target: Sheet,
-}
-
-// What a call answers, and the next sheet of the one file that it can change.
-pub struct Turn {
-    pub answer: Answer,
-    pub sheet: Sheet,
 }
 
 // What a call answers, and the next store.

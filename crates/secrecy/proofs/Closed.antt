@@ -9,12 +9,12 @@ use mathlib.Core.Option.{Option·some-injective}
 use lib.Dec.{T}
 use Rattle.secrecy.specs.Machine.{Machine, isOf, answersWhere, answersTo}
 use Rattle.secrecy.specs.Strike.{strike, strikeDesk, Struck, no-acts, struck, kept}
-use Rattle.secrecy.specs.Views.{Links, Views, MayChange, Unwinding}
+use Rattle.secrecy.specs.Views.{Policy, Views, MayChange, Unwinding}
 use Rattle.secrecy.specs.Sets.{Desks, OfSet, OfEither, of-H, of-L, of-nobody, Every, Closed, AlikeTo}
 use Rattle.secrecy.proofs.Front.{frontIf-fails, frontIf-agree}
 use Rattle.secrecy.proofs.StruckOut.{strike-sorts, isDesk-some}
 
-module _ {M : Machine} {linked : Links} {Alike : Views M} (unwound : Unwinding M linked Alike) {H L : Desks} (closed : Closed linked H L) where
+module _ {M : Machine} {linked : Policy} {Alike : Views M} (unwound : Unwinding M linked Alike) {H L : Desks} (closed : Closed linked H L) where
   -- an act of H leaves every view of L alone
   unseen : {a : M .Act} → OfSet M H a → (s : M .State) → AlikeTo M Alike L s (M .step s a)
   unseen {a} h s u l = unwound .leaves-alone a (h .who) (h .belongs) u may-not s

@@ -19,6 +19,7 @@ abbrev pub frontIf : {A : Type 0} → Bool → A → List A → List A
 frontIf true x xs = x ∷ xs
 frontIf false x xs = xs
 
+-- "A call whose process does not exist belongs to none and is not struck out": it is no desk's
 abbrev pub isDesk : ℕ → Option ℕ → Bool
 isDesk u none = false
 isDesk u (some d) = eqb d u

@@ -1,10 +1,11 @@
--- Sets of desks, whose acts a list holds, and when one set is closed against another.
+-- What holds of every act of a list; and, for the proof of demand 3, sets of desks, whose acts a list holds, and when one is closed
+-- against another.
 use Prim.Native.Nat.{ℕ}
 use mathlib.Core.Path.{_≡_}
 use mathlib.Core.List.{List, List·Memᴰ}
 use mathlib.Core.Option.{Option, none, some}
 use Rattle.secrecy.specs.Machine.{Machine}
-use Rattle.secrecy.specs.Views.{Links, Views}
+use Rattle.secrecy.specs.Views.{Policy, Views}
 
 abbrev pub Desks : Type 1
 Desks = ℕ → Type 0
@@ -26,7 +27,7 @@ abbrev pub Every : {A : Type 0} → (A → Type 0) → List A → Type 0
 Every {A} P acts = (a : A) → List·Memᴰ a acts → P a
 
 -- no desk is in both sets, and no desk of H has a link to a desk of L
-pub record Closed (linked : Links) (H L : Desks) : Type 0 where
+pub record Closed (linked : Policy) (H L : Desks) : Type 0 where
   pub apart : (d : ℕ) → H d → ¬ L d
   pub no-link : (d u : ℕ) → H d → L u → ¬ linked d u
 

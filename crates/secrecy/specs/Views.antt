@@ -1,4 +1,5 @@
--- What each desk sees of a state, who may change it, and the conditions that unwind secrecy to single acts (Rushby 1992).
+-- What each desk sees of a state, who may change it, and the conditions that unwind secrecy to single acts (Rushby 1992). For the proof
+-- of demand 3: no entry's promise cites it.
 use Prim.Native.Nat.{ℕ}
 use mathlib.Core.Path.{_≡_}
 use mathlib.Core.Logic.{_⊎_}
@@ -6,8 +7,8 @@ use mathlib.Core.Option.{Option, none, some}
 use Rattle.secrecy.specs.Machine.{Machine}
 
 -- a policy: which desk has a link to which
-abbrev pub Links : Type 1
-Links = ℕ → ℕ → Type 0
+abbrev pub Policy : Type 1
+Policy = ℕ → ℕ → Type 0
 
 -- a view for each desk: when two states look alike to it
 abbrev pub Views : Machine → Type 1
@@ -19,10 +20,10 @@ pub record Equivalence {S : Type 0} (R : S → S → Type 0) : Type 0 where
   pub transitive : (s t r : S) → R s t → R t r → R s r
 
 -- a desk may change what it sees itself, so a link to itself is not asked for
-abbrev pub MayChange : Links → ℕ → ℕ → Type 0
+abbrev pub MayChange : Policy → ℕ → ℕ → Type 0
 MayChange linked d u = (d ≡ u) ⊎ linked d u
 
-pub record Unwinding (M : Machine) (linked : Links) (Alike : Views M) : Type 0 where
+pub record Unwinding (M : Machine) (linked : Policy) (Alike : Views M) : Type 0 where
   pub views : (u : ℕ) → Equivalence (Alike u)
   -- an act is answered the same on states alike to its desk
   pub answers-agree : (a : M .Act) (d : ℕ) → M .desk a ≡ some d → (s t : M .State) → Alike d s t → M .answer s a ≡ M .answer t a

@@ -9,14 +9,14 @@ use lib.ListN.{length, set, replicate}
 use Rattle.rules.specs.Sizes.{mostDesks, mostClasses, mostRights}
 use Rattle.rules.specs.Setups.{rightBoth}
 use Rattle.rules.specs.Refusals.{firstOf}
-use Rattle.lines.specs.Shapes.{Access, accessLine}
-use Rattle.lines.specs.Readings.{refused, breaksRules, accessOrder, Text}
+use Rattle.lines.specs.Shapes.{header, Access, accessLine}
+use Rattle.lines.specs.Readings.{afterHeader, refused, breaksRules, accessOrder, Text}
 use Rattle.lines.proofs.Shapes.{accessLine-right}
 use Rattle.fields.specs.Cursor.{told, lineAt}
 use Rattle.fields.proofs.Firsts.{told-some, told-none, line-found, line-within}
-use Rattle.text.specs.Onward.{onward}
-use Rattle.text.specs.Stages.{header, accessStage, AllInside, rightsOf, AccessRead}
-use Rattle.text.proofs.Onward.{line-read, line-held}
+use Rattle.text.specs.ReadOn.{readOn}
+use Rattle.text.specs.Stages.{accessStage, AllInside, rightsOf, AccessRead}
+use Rattle.text.proofs.ReadOn.{line-read, line-held}
 use Rattle.text.proofs.Stages.{access-judged, access-ends}
 use Rattle.text.proofs.Tables.{placeOf, leastAfter, place-rises, place-falls, rights-none, rights-more}
 
@@ -28,7 +28,7 @@ pub record Accessed (desks classes : ℕ) (text : List ℕ) (at : ℕ) (rights :
   pub within : from ≤ length text
   pub rising : least ≡ leastAfter access
   pub leads : (t : Text) (processes files : ℕ)
-      → (let h = header desks classes processes files in onward t text at (accessStage h []) ≡ onward t text from (accessStage h access))
+      → (let h = header desks classes processes files in readOn t text at (afterHeader h) ≡ readOn t text from (accessStage h access))
 
 pub accessed-none : (desks classes : ℕ) (text : List ℕ) (at : ℕ) (rights : List ℕ) → at ≤ length text → rights ≡ replicate mostRights 0
     → Accessed desks classes text at rights at 0
@@ -59,7 +59,7 @@ module _ (desks classes : ℕ) (text : List ℕ) (at : ℕ) (rights : List ℕ) 
     accessed-past = line-within accessLine text from (sym e ∙ told-some next line n)
 
     held : (r : ℕ) → (r ≡ 0 → ⊥) → firstOf (accessOrder (accessStage (header desks classes 0 0) (so-far .access)) line) ≡ r
-        → (t : Text) (processes files : ℕ) → onward t text at (accessStage (header desks classes processes files) []) ≡ refused r from
+        → (t : Text) (processes files : ℕ) → readOn t text at (afterHeader (header desks classes processes files)) ≡ refused r from
     held r h z t processes files =
         let k = header desks classes processes files in
         so-far .leads t processes files
@@ -67,16 +67,18 @@ module _ (desks classes : ℕ) (text : List ℕ) (at : ℕ) (rights : List ℕ) 
         (λ a. accessStage k (a ∷ so-far .access)) (access-judged t k (so-far .access)) next line (sym e ∙ told-some next line n) r h z
 
     -- 3 before 4, and both before rising order
-    pub accessed-desk : desks ≤ line .desk → (t : Text) (processes files : ℕ) → onward t text at (accessStage (header desks classes processes files) []) ≡ refused 3 from
+    pub accessed-desk : desks ≤ line .desk
+        → (t : Text) (processes files : ℕ) → readOn t text at (afterHeader (header desks classes processes files)) ≡ refused 3 from
     accessed-desk l = held 3 (omega arith) (rw (le-leb desks (line .desk) l))
 
     module _ (d : line .desk < desks) where
-      pub accessed-class : classes ≤ line .class → (t : Text) (processes files : ℕ) → onward t text at (accessStage (header desks classes processes files) []) ≡ refused 4 from
+      pub accessed-class : classes ≤ line .class
+          → (t : Text) (processes files : ℕ) → readOn t text at (afterHeader (header desks classes processes files)) ≡ refused 4 from
       accessed-class l = held 4 (omega arith) (rw (lt-leb desks (line .desk) d, le-leb classes (line .class) l))
 
       module _ (c : line .class < classes) (most : classes ≤ mostClasses) where
         pub accessed-order : placeOf line < least
-            → (t : Text) (processes files : ℕ) → onward t text at (accessStage (header desks classes processes files) []) ≡ refused breaksRules from
+            → (t : Text) (processes files : ℕ) → readOn t text at (afterHeader (header desks classes processes files)) ≡ refused breaksRules from
         accessed-order l =
             held breaksRules (omega arith)
             (rw (

@@ -10,16 +10,16 @@ use Rattle.rules.specs.Calls.{callWidth, inQuads}
 use Rattle.rules.specs.declared.Setup.{Setup}
 use Rattle.rules.proofs.Quads.{inQuads-length}
 use Rattle.lines.specs.Shapes.{callsLine}
-use Rattle.lines.specs.Readings.{SoFar, Reached, sound, refused, breaksRules, afterCalls, alone, withCalls, readText, bytesRead}
+use Rattle.lines.specs.Readings.{SoFar, Reached, sound, refused, breaksRules, callsSoFar, afterCalls, alone, callsFollow, readText, bytesRead}
 use Rattle.lines.specs.Entries.{givenBy, callsBy, readAlone, reachedWith, readWithCalls, callsRead, roomRead, textNumbersOf}
 use Rattle.lines.specs.declared.GivenText.{GivenText}
 use Rattle.lines.specs.declared.Reading.the-variants.{Read}
 use Rattle.lines.proofs.Faults.{further-refused}
 use Rattle.fields.specs.Cursor.{told, lineAt}
 use Rattle.fields.proofs.Firsts.{told-some, told-none, line-within}
-use Rattle.text.specs.Onward.{onward}
-use Rattle.text.specs.Stages.{callStage, SetupLines, CallsRead}
-use Rattle.text.proofs.Onward.{judges-takes, shape-broken, line-read, all-refused, none-missing}
+use Rattle.text.specs.ReadOn.{readOn}
+use Rattle.text.specs.Stages.{SetupLines, CallsRead}
+use Rattle.text.proofs.ReadOn.{judges-takes, shape-broken, line-read, all-refused, none-missing}
 use Rattle.text.proofs.Stages.{calls-judged}
 
 -- what a setup text read alone comes to is answered
@@ -57,34 +57,34 @@ pub with-refused : (text room : List ℕ) (n at : ℕ) (r : GivenText) → reach
 unfolding inQuads
 with-refused text room n at r e q = with-answered text room (refused n at) r room e q refl
 
-module _ (text : List ℕ) (end : ℕ) (setup : Setup) (s : SetupLines withCalls text end setup) (next : ℕ) (e : told {A = List ℕ} next [] ≡ lineAt callsLine text end) where
+module _ (text : List ℕ) (end : ℕ) (setup : Setup) (s : SetupLines callsFollow text end setup) (next : ℕ)
+    (e : told {A = List ℕ} next [] ≡ lineAt callsLine text end) where
   -- the `calls` line
-  pub calls-broken : next ≡ 0 → readText withCalls text ≡ refused breaksRules end
+  pub calls-broken : next ≡ 0 → readText callsFollow text ≡ refused breaksRules end
   calls-broken z =
       s .leads
-      ∙ shape-broken withCalls text end (s .so-far) callsLine (λ ns. []) (λ ns. afterCalls (s .so-far)) (calls-judged (s .so-far) (s .ended)) (s .within)
+      ∙ shape-broken callsFollow text end (s .so-far) callsLine (λ ns. []) (λ ns. afterCalls (s .so-far)) (calls-judged (s .so-far) (s .ended)) (s .within)
       (sym e ∙ told-none next [] z) (λ q. rw (s .ended))
 
   module _ (n : next ≡ 0 → ⊥) where
     pub calls-within : next ≤ length text
     calls-within = line-within callsLine text end (sym e ∙ told-some next [] n) .1
 
-    calls-read : readText withCalls text ≡ onward withCalls text next (callStage (s .so-far) [])
+    calls-read : readText callsFollow text ≡ readOn callsFollow text next (afterCalls (s .so-far))
     calls-read =
         s .leads
-        ∙ line-read withCalls text end (s .so-far) callsLine (λ ns. []) (λ ns. afterCalls (s .so-far))
-        (judges-takes withCalls text end (s .so-far) callsLine (λ ns. []) (λ ns. afterCalls (s .so-far)) (calls-judged (s .so-far) (s .ended)))
+        ∙ line-read callsFollow text end (s .so-far) callsLine (λ ns. []) (λ ns. afterCalls (s .so-far))
+        (judges-takes callsFollow text end (s .so-far) callsLine (λ ns. []) (λ ns. afterCalls (s .so-far)) (calls-judged (s .so-far) (s .ended)))
         next [] (sym e ∙ told-some next [] n) refl
-        ∙ rw (s .no-calls)
 
-    pub call-refused : (r at : ℕ) → ((m : SoFar) → onward withCalls text next (callStage m []) ≡ refused r at) → readText withCalls text ≡ refused r at
+    pub call-refused : (r at : ℕ) → ((m : SoFar) → readOn callsFollow text next (afterCalls m) ≡ refused r at) → readText callsFollow text ≡ refused r at
     call-refused r at h = calls-read ∙ h (s .so-far)
 
     module _ (count : ℕ) (was run : List ℕ) (c : CallsRead text next count was run) where
-      pub text-read : readText withCalls text ≡ sound (callStage (s .so-far) (c .calls))
+      pub text-read : readText callsFollow text ≡ sound (callsSoFar (s .so-far) (c .calls))
       text-read = calls-read ∙ c .leads (s .so-far)
 
-      pub text-given : record { reading = Read count; setup = setup } ≡ givenBy (sound (callStage (s .so-far) (c .calls)))
+      pub text-given : record { reading = Read count; setup = setup } ≡ givenBy (sound (callsSoFar (s .so-far) (c .calls)))
       unfolding bytesRead
       text-given = rw (s .is, c .count-is)
 

@@ -14,13 +14,13 @@ use Rattle.rules.specs.Entries.{unless}
 use Rattle.rules.specs.declared.Setup.{Setup}
 use Rattle.rules.proofs.Setups.{WithinSizes}
 use Rattle.lines.specs.Bytes.{wordProcess, wordFile}
-use Rattle.lines.specs.Shapes.{Header, Access, headerLine}
-use Rattle.lines.specs.Readings.{processDue, callsDue, atStart, refused, breaksRules, headerOrder, Text, readText, bytesRead}
+use Rattle.lines.specs.Shapes.{Header, header, Access, headerLine}
+use Rattle.lines.specs.Readings.{processDue, callsDue, afterHeader, setDue, atStart, refused, breaksRules, headerOrder, Text, readText, bytesRead}
 use Rattle.fields.specs.Cursor.{told, lineAt}
 use Rattle.fields.proofs.Firsts.{told-some, told-none, line-within}
-use Rattle.text.specs.Onward.{onward}
-use Rattle.text.specs.Stages.{header, readTo, accessStage, processStage, fileStage, AllInside, rightsOf, ForEntries, EntriesRead, SetupLines, SetupEnd}
-use Rattle.text.proofs.Onward.{from-start, judges-takes, shape-broken, line-read, line-held}
+use Rattle.text.specs.ReadOn.{readOn}
+use Rattle.text.specs.Stages.{accessStage, processStage, fileStage, AllInside, rightsOf, ForEntries, EntriesRead, SetupLines, SetupEnd}
+use Rattle.text.proofs.ReadOn.{from-start, judges-takes, shape-broken, line-read, line-held}
 use Rattle.text.proofs.Stages.{start-lacks, header-judged, processes-due, files-due}
 use Rattle.text.proofs.Tables.{rights-given, entries-table}
 
@@ -50,7 +50,7 @@ module _ (t : Text) (text : List ℕ) (h : Header) (next : ℕ) (e : told next h
   pub header-broken : next ≡ 0 → readText t text ≡ refused breaksRules 0
   header-broken z =
       from-start t text
-      ∙ shape-broken t text 0 atStart headerLine headerOrder (λ k. accessStage k []) (header-judged t) (omega arith) (sym e ∙ told-none next h z)
+      ∙ shape-broken t text 0 atStart headerLine headerOrder afterHeader (header-judged t) (omega arith) (sym e ∙ told-none next h z)
       (λ q. start-lacks t)
 
   module _ (n : next ≡ 0 → ⊥) where
@@ -60,25 +60,25 @@ module _ (t : Text) (text : List ℕ) (h : Header) (next : ℕ) (e : told next h
     pub header-outside : withinSizes (h .desks) (h .classes) (h .processes) (h .files) ≡ false → readText t text ≡ refused 1 0
     header-outside f =
         from-start t text
-        ∙ line-held t text 0 atStart headerLine headerOrder (λ k. accessStage k [])
-        (judges-takes t text 0 atStart headerLine headerOrder (λ k. accessStage k []) (header-judged t)) next h (sym e ∙ told-some next h n) 1 (omega arith) (rw f)
+        ∙ line-held t text 0 atStart headerLine headerOrder afterHeader
+        (judges-takes t text 0 atStart headerLine headerOrder afterHeader (header-judged t)) next h (sym e ∙ told-some next h n) 1 (omega arith) (rw f)
 
-    pub header-read : withinSizes (h .desks) (h .classes) (h .processes) (h .files) ≡ true → readText t text ≡ onward t text next (accessStage h [])
+    pub header-read : withinSizes (h .desks) (h .classes) (h .processes) (h .files) ≡ true → readText t text ≡ readOn t text next (afterHeader h)
     header-read s =
         from-start t text
-        ∙ line-read t text 0 atStart headerLine headerOrder (λ k. accessStage k [])
-        (judges-takes t text 0 atStart headerLine headerOrder (λ k. accessStage k []) (header-judged t)) next h (sym e ∙ told-some next h n) (rw s)
+        ∙ line-read t text 0 atStart headerLine headerOrder afterHeader
+        (judges-takes t text 0 atStart headerLine headerOrder afterHeader (header-judged t)) next h (sym e ∙ told-some next h n) (rw s)
 
 module _ (t : Text) (text : List ℕ) (desks classes processes files : ℕ) (sizes : WithinSizes desks classes processes files) (at : ℕ)
     (access : List Access) (inside : AllInside desks classes access) (rights : List ℕ) (are : rights ≡ rightsOf access)
-    (start : readText t text ≡ onward t text at (readTo processDue (header desks classes processes files) access [] [])) (count : ℕ)
+    (start : readText t text ≡ readOn t text at (setDue (accessStage (header desks classes processes files) access) processDue)) (count : ℕ)
     (every-process : count ≡ processes) where
   -- after the access lines the first process line is due, and where process lines are refused the text is
-  to-processes : readText t text ≡ onward t text at (processStage (header desks classes processes files) access [])
+  to-processes : readText t text ≡ readOn t text at (processStage (header desks classes processes files) access [])
   to-processes = start ∙ rw (lt-ltb 0 processes (omega (arith, sizes .of-processes .low)))
 
   pub processes-refused : (r end : ℕ)
-      → ForEntries wordProcess desks 3 count (λ k stage. onward k text at (stage []) ≡ refused r end) → readText t text ≡ refused r end
+      → ForEntries wordProcess desks 3 count (λ k stage. readOn k text at (stage []) ≡ refused r end) → readText t text ≡ refused r end
   processes-refused r end f =
       let h = header desks classes processes files in
       to-processes ∙ f t (processStage h access) (processes-due t h access count every-process)
@@ -86,20 +86,20 @@ module _ (t : Text) (text : List ℕ) (desks classes processes files : ℕ) (siz
   module _ (at-files : ℕ) (desk : List ℕ) (p : EntriesRead text at wordProcess desks 3 count at-files desk) (number : ℕ)
       (every-file : number ≡ files) where
     -- after the process lines the first file line is due, and where file lines are refused the text is
-    to-files : readText t text ≡ onward t text at-files (fileStage (header desks classes processes files) access desk [])
+    to-files : readText t text ≡ readOn t text at-files (fileStage (header desks classes processes files) access desk [])
     to-files =
         let h = header desks classes processes files in
         to-processes ∙ p .leads t (processStage h access) (processes-due t h access count every-process)
         ∙ rw (le-ltb (length desk) processes (omega (arith, p .long)), lt-ltb 0 files (omega (arith, sizes .of-files .low)))
 
     pub files-refused : (r end : ℕ)
-        → ForEntries wordFile classes 4 number (λ k stage. onward k text at-files (stage []) ≡ refused r end) → readText t text ≡ refused r end
+        → ForEntries wordFile classes 4 number (λ k stage. readOn k text at-files (stage []) ≡ refused r end) → readText t text ≡ refused r end
     files-refused r end f =
         let h = header desks classes processes files in
         to-files ∙ f t (fileStage h access desk) (files-due t h access desk number every-file)
 
     module _ (end : ℕ) (class : List ℕ) (f : EntriesRead text at-files wordFile classes 4 number end class) where
-      to-end : readText t text ≡ onward t text end (readTo callsDue (header desks classes processes files) access desk class)
+      to-end : readText t text ≡ readOn t text end (setDue (fileStage (header desks classes processes files) access desk class) callsDue)
       to-end =
           let h = header desks classes processes files in
           to-files ∙ f .leads t (fileStage h access desk) (files-due t h access desk number every-file)
@@ -123,7 +123,7 @@ module _ (t : Text) (text : List ℕ) (desks classes processes files : ℕ) (siz
           let class-is = entries-table mostFiles class (omega (arith, f .long, sizes .of-files .high)) in
           let rights-are = are ∙ rights-given desks classes access (sizes .of-classes .high) inside in
           record {
-            so-far = readTo callsDue (header desks classes processes files) access desk class;
+            so-far = setDue (fileStage (header desks classes processes files) access desk class) callsDue;
             leads = to-end;
             ended = refl;
             no-calls = refl;

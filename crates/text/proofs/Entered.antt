@@ -13,16 +13,16 @@ use Rattle.lines.specs.Shapes.{readAs}
 use Rattle.lines.specs.Readings.{SoFar, refused, breaksRules}
 use Rattle.fields.specs.Cursor.{told, lineAt}
 use Rattle.fields.proofs.Firsts.{told-some, told-none, line-within}
-use Rattle.text.specs.Onward.{onward}
+use Rattle.text.specs.ReadOn.{readOn}
 use Rattle.text.specs.Stages.{entryShape, entryOrder, ForEntries, EntriesRead}
-use Rattle.text.proofs.Onward.{judges-takes, shape-broken, line-read, line-held}
+use Rattle.text.proofs.ReadOn.{judges-takes, shape-broken, line-read, line-held}
 
 -- the lines before a cursor are sound, and give the entries before i
 pub record Entered (text : List ℕ) (at : ℕ) (word : List ℕ) (bound refusal count : ℕ) (entries : List ℕ) (from i : ℕ) : Type 0 where
   pub long : length entries ≡ count
   pub before : i ≤ count
   pub within : from ≤ length text
-  pub leads : ForEntries word bound refusal count (λ t stage. onward t text at (stage []) ≡ onward t text from (stage (take i entries)))
+  pub leads : ForEntries word bound refusal count (λ t stage. readOn t text at (stage []) ≡ readOn t text from (stage (take i entries)))
 
 pub entered-none : (text : List ℕ) (at : ℕ) (word : List ℕ) (bound refusal : ℕ) (entries : List ℕ) → at ≤ length text
     → Entered text at word bound refusal (length entries) entries at 0
@@ -37,14 +37,14 @@ module _ (text : List ℕ) (at : ℕ) (word : List ℕ) (bound refusal count : �
       record {
         long = so-far .long;
         within = so-far .within;
-        leads = λ t stage due. so-far .leads t stage due ∙ ap (λ (xs : List ℕ). onward t text from (stage xs)) all;
+        leads = λ t stage due. so-far .leads t stage due ∙ ap (λ (xs : List ℕ). readOn t text from (stage xs)) all;
       }
 
   module _ (l : i < count) (next first second : ℕ) (e : told next (first ∷ second ∷ []) ≡ lineAt (readAs (entryShape word)) text from) where
     taken : length (take i entries) ≡ i
     taken = length-take-le i entries (omega (arith, so-far .long))
 
-    pub entered-broken : next ≡ 0 → ForEntries word bound refusal count (λ t stage. onward t text at (stage []) ≡ refused breaksRules from)
+    pub entered-broken : next ≡ 0 → ForEntries word bound refusal count (λ t stage. readOn t text at (stage []) ≡ refused breaksRules from)
     entered-broken z t stage due =
         let fewer : length (take i entries) < count = omega (arith, taken) in
         so-far .leads t stage due
@@ -57,7 +57,7 @@ module _ (text : List ℕ) (at : ℕ) (word : List ℕ) (bound refusal count : �
       entered-past = line-within (readAs (entryShape word)) text from (sym e ∙ told-some next (first ∷ second ∷ []) n)
 
       held : (r : ℕ) → (r ≡ 0 → ⊥) → firstOf (entryOrder bound refusal (take i entries) (first ∷ second ∷ [])) ≡ r
-          → ForEntries word bound refusal count (λ t stage. onward t text at (stage []) ≡ refused r from)
+          → ForEntries word bound refusal count (λ t stage. readOn t text at (stage []) ≡ refused r from)
       held r h z t stage due =
           let read = readAs (entryShape word) in
           let order = entryOrder bound refusal (take i entries) in
@@ -69,11 +69,11 @@ module _ (text : List ℕ) (at : ℕ) (word : List ℕ) (bound refusal count : �
 
       -- the bound before the number
       pub entered-bound : (refusal ≡ 0 → ⊥) → bound ≤ second
-          → ForEntries word bound refusal count (λ t stage. onward t text at (stage []) ≡ refused refusal from)
+          → ForEntries word bound refusal count (λ t stage. readOn t text at (stage []) ≡ refused refusal from)
       entered-bound h b = held refusal h (rw (le-leb bound second b))
 
       pub entered-order : second < bound → (first ≡ i → ⊥)
-          → ForEntries word bound refusal count (λ t stage. onward t text at (stage []) ≡ refused breaksRules from)
+          → ForEntries word bound refusal count (λ t stage. readOn t text at (stage []) ≡ refused breaksRules from)
       entered-order b h = held breaksRules (omega arith) (rw (lt-leb bound second b, taken, ne-eqb first i h))
 
       -- one more line is read, and its entry written
@@ -93,5 +93,5 @@ module _ (text : List ℕ) (at : ℕ) (word : List ℕ) (bound refusal count : �
                 ∙ line-read t text from (stage (take i entries)) read order next-stage
                 (judges-takes t text from (stage (take i entries)) read order next-stage (due .judges (take i entries) (omega (arith, taken)))) next
                 (first ∷ second ∷ []) (sym e ∙ told-some next (first ∷ second ∷ []) n)
-                (rw (lt-leb bound second b, taken, eq-eqb first i h)) ∙ ap (λ (xs : List ℕ). onward t text next (stage xs)) (sym more);
+                (rw (lt-leb bound second b, taken, eq-eqb first i h)) ∙ ap (λ (xs : List ℕ). readOn t text next (stage xs)) (sym more);
           }

@@ -7,17 +7,18 @@ use native.Mathlib.Omega.{arith}
 use borrow.Author.Tests.{lt-leb}
 use lib.ListN.{length, length-append}
 use Rattle.rules.specs.Sizes.{mostCalls}
-use Rattle.rules.specs.Calls.{Numbers, callWidth}
-use Rattle.lists.specs.Writers as writers
+use Rattle.rules.specs.Calls.{callWidth}
+use Rattle.rules.specs.declared.Numbers.{Numbers}
+use Rattle.lists.specs.Writers.{withCalls}
 use Rattle.lists.proofs.Quads.{no-calls, calls-more, calls-in-front, withCalls-length}
 use Rattle.lines.specs.Shapes.{callLine}
-use Rattle.lines.specs.Readings.{SoFar, refused, breaksRules, callOrder, withCalls}
+use Rattle.lines.specs.Readings.{SoFar, refused, breaksRules, callsSoFar, afterCalls, callLineOrder, callsFollow}
 use Rattle.lines.proofs.Faults.{past-most-refused}
 use Rattle.fields.specs.Cursor.{told, lineAt}
 use Rattle.fields.proofs.Firsts.{told-some, told-none, line-within}
-use Rattle.text.specs.Onward.{onward}
-use Rattle.text.specs.Stages.{callStage, CallsRead}
-use Rattle.text.proofs.Onward.{judges-takes, shape-broken, line-read, all-refused, none-missing}
+use Rattle.text.specs.ReadOn.{readOn}
+use Rattle.text.specs.Stages.{CallsRead}
+use Rattle.text.proofs.ReadOn.{judges-takes, shape-broken, line-read, all-refused, none-missing}
 use Rattle.text.proofs.Stages.{call-judged}
 
 -- the lines before a cursor are sound, and their calls stand at the front of a run
@@ -25,9 +26,9 @@ pub record Gathered (text : List ℕ) (at : ℕ) (was run : List ℕ) (from coun
   pub calls : List Numbers
   pub count-is : length calls ≡ count
   pub few : count ≤ mostCalls
-  pub are : run ≡ writers.withCalls was 0 calls
+  pub are : run ≡ withCalls was 0 calls
   pub within : from ≤ length text
-  pub leads : (s : SoFar) → onward withCalls text at (callStage s []) ≡ onward withCalls text from (callStage s calls)
+  pub leads : (s : SoFar) → readOn callsFollow text at (afterCalls s) ≡ readOn callsFollow text from (callsSoFar s calls)
 
 pub gathered-none : (text : List ℕ) (at : ℕ) (was : List ℕ) → at ≤ length text → Gathered text at was was at 0
 gathered-none text at was l =
@@ -41,7 +42,7 @@ module _ (text : List ℕ) (at : ℕ) (was run : List ℕ) (from count : ℕ) (s
         count-is = so-far .count-is;
         few = so-far .few;
         are = so-far .are ∙ calls-in-front was (so-far .calls) ∙ rw (so-far .count-is);
-        leads = λ s. so-far .leads s ∙ none-missing withCalls text from (callStage s (so-far .calls)) (omega (arith, so-far .within)) refl;
+        leads = λ s. so-far .leads s ∙ none-missing callsFollow text from (callsSoFar s (so-far .calls)) (omega (arith, so-far .within)) refl;
       }
 
   -- a run that has room for the most keeps its length
@@ -50,18 +51,18 @@ module _ (text : List ℕ) (at : ℕ) (was run : List ℕ) (from count : ℕ) (s
 
   module _ (l : from < length text) where
     -- "A call line past the 1,024th is 14"
-    pub gathered-past-most : mostCalls ≤ count → (s : SoFar) → onward withCalls text at (callStage s []) ≡ refused breaksRules from
+    pub gathered-past-most : mostCalls ≤ count → (s : SoFar) → readOn callsFollow text at (afterCalls s) ≡ refused breaksRules from
     gathered-past-most m s =
         so-far .leads s
-        ∙ all-refused withCalls text from (callStage s (so-far .calls))
-        (λ k. past-most-refused withCalls (callStage s (so-far .calls)) k refl (omega (arith, so-far .count-is))) l
+        ∙ all-refused callsFollow text from (callsSoFar s (so-far .calls))
+        (λ k. past-most-refused callsFollow (callsSoFar s (so-far .calls)) k refl (omega (arith, so-far .count-is))) l
 
     module _ (next : ℕ) (n : Numbers) (e : told next n ≡ lineAt callLine text from) where
-      pub gathered-broken : next ≡ 0 → (s : SoFar) → onward withCalls text at (callStage s []) ≡ refused breaksRules from
+      pub gathered-broken : next ≡ 0 → (s : SoFar) → readOn callsFollow text at (afterCalls s) ≡ refused breaksRules from
       gathered-broken z s =
           so-far .leads s
-          ∙ shape-broken withCalls text from (callStage s (so-far .calls)) callLine (λ k. callOrder (callStage s (so-far .calls)))
-          (λ k. callStage s (so-far .calls ++ (k ∷ []))) (call-judged s (so-far .calls)) (so-far .within) (sym e ∙ told-none next n z)
+          ∙ shape-broken callsFollow text from (callsSoFar s (so-far .calls)) callLine (λ k. callLineOrder (callsSoFar s (so-far .calls)))
+          (λ k. callsSoFar s (so-far .calls ++ (k ∷ []))) (call-judged s (so-far .calls)) (so-far .within) (sym e ∙ told-none next n z)
           (λ q. absurd (omega arith))
 
       module _ (p : next ≡ 0 → ⊥) where
@@ -70,7 +71,7 @@ module _ (text : List ℕ) (at : ℕ) (was run : List ℕ) (from count : ℕ) (s
 
         -- one more line is read, and its call put after the others
         pub gathered-more : mostCalls * callWidth ≤ length was → count < mostCalls
-            → Gathered text at was (writers.withCalls run count (n ∷ [])) next (count + 1)
+            → Gathered text at was (withCalls run count (n ∷ [])) next (count + 1)
         gathered-more room m =
             let calls = so-far .calls in
             let fits : (0 + length calls) * callWidth ≤ length was = omega (arith, so-far .count-is) in
@@ -80,15 +81,15 @@ module _ (text : List ℕ) (at : ℕ) (was run : List ℕ) (from count : ℕ) (s
               count-is = omega (arith, length-append calls (n ∷ []), so-far .count-is);
               few = omega arith;
               are =
-                  ap (λ (r : List ℕ). writers.withCalls r count (n ∷ [])) (so-far .are)
-                  ∙ ap (λ (k : ℕ). writers.withCalls (writers.withCalls was 0 calls) k (n ∷ [])) (sym at-end)
+                  ap (λ (r : List ℕ). withCalls r count (n ∷ [])) (so-far .are)
+                  ∙ ap (λ (k : ℕ). withCalls (withCalls was 0 calls) k (n ∷ [])) (sym at-end)
                   ∙ calls-more was 0 calls fits (n ∷ []);
               within = gathered-past .1;
               leads =
                   λ s.
-                  let next-stage : Numbers → SoFar = λ k. callStage s (calls ++ (k ∷ [])) in
+                  let next-stage : Numbers → SoFar = λ k. callsSoFar s (calls ++ (k ∷ [])) in
                   so-far .leads s
-                  ∙ line-read withCalls text from (callStage s calls) callLine (λ k. callOrder (callStage s calls)) next-stage
-                  (judges-takes withCalls text from (callStage s calls) callLine (λ k. callOrder (callStage s calls)) next-stage (call-judged s calls))
+                  ∙ line-read callsFollow text from (callsSoFar s calls) callLine (λ k. callLineOrder (callsSoFar s calls)) next-stage
+                  (judges-takes callsFollow text from (callsSoFar s calls) callLine (λ k. callLineOrder (callsSoFar s calls)) next-stage (call-judged s calls))
                   next n (sym e ∙ told-some next n p) (rw (so-far .count-is, lt-leb mostCalls count m));
             }

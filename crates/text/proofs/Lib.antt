@@ -5,6 +5,6 @@ pub mod Answered
 pub mod Ended
 pub mod Entered
 pub mod Gathered
-pub mod Onward
+pub mod ReadOn
 pub mod Stages
 pub mod Tables

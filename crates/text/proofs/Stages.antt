@@ -10,18 +10,18 @@ use native.Mathlib.Omega.{arith}
 use lib.ListN.{length, drop}
 use borrow.Author.Tests.{lt-ltb}
 use Rattle.rules.specs.Refusals.{Refusal}
-use Rattle.rules.specs.Calls.{Numbers}
+use Rattle.rules.specs.declared.Numbers.{Numbers}
 use Rattle.rules.proofs.Lists.{by-test}
 use Rattle.lines.specs.Bytes.{wordAccess, wordProcess, wordFile, same}
 use Rattle.lines.specs.Lines.{fieldsOf}
 use Rattle.lines.specs.Shapes.{readAs, made, Header, Access, headerLine, accessLine, processLine, processShape, processFrom, fileLine, fileShape, fileFrom, callsLine, callLine}
-use Rattle.lines.specs.Readings.{headerDue, accessDue, processDue, fileDue, callsDue, SoFar, atStart, judged, headerOrder, accessOrder, afterCalls, processOrder, afterProcess, fileOrder, afterFile, callOrder, Text, alone, withCalls, startsAccess, complete}
+use Rattle.lines.specs.Readings.{processDue, callsDue, SoFar, afterHeader, setDue, atStart, judged, headerOrder, accessOrder, callsSoFar, afterCalls, processOrder, afterProcess, fileOrder, afterFile, callLineOrder, Text, callsFollow, startsAccess, complete}
 use Rattle.lines.proofs.Shapes.{none-some, same-iff}
 use Rattle.fields.specs.Cursor.{firstLine, isWhole, lineAt}
 use Rattle.fields.proofs.Firsts.{line-none}
-use Rattle.text.specs.Onward.{onward}
-use Rattle.text.specs.Stages.{readTo, accessStage, processStage, fileStage, callStage, EntriesDue}
-use Rattle.text.proofs.Onward.{Judges, Takes, judged-alike}
+use Rattle.text.specs.ReadOn.{readOn}
+use Rattle.text.specs.Stages.{accessStage, processStage, fileStage, EntriesDue}
+use Rattle.text.proofs.ReadOn.{Judges, Takes, judged-alike}
 
 -- what is made of the numbers that a shape gives is judged by the numbers
 judged-made {ℓ} : {A : Type ℓ} (at : ℕ) (f : List ℕ → A) (o : Option (List ℕ)) (order : A → List Refusal) (next : A → SoFar)
@@ -29,28 +29,12 @@ judged-made {ℓ} : {A : Type ℓ} (at : ℕ) (f : List ℕ → A) (o : Option (
 judged-made at f none order next = refl
 judged-made at f (some ns) order next = refl
 
--- only where its lines are all read does a setup lack none
-header-lacks : (t : Text) → complete t headerDue ≡ false
-header-lacks alone = refl
-header-lacks withCalls = refl
-
-access-lacks : (t : Text) → complete t accessDue ≡ false
-access-lacks alone = refl
-access-lacks withCalls = refl
-
-process-lacks : (t : Text) → complete t processDue ≡ false
-process-lacks alone = refl
-process-lacks withCalls = refl
-
-file-lacks : (t : Text) → complete t fileDue ≡ false
-file-lacks alone = refl
-file-lacks withCalls = refl
-
+-- before any line one is missing
 pub start-lacks : (t : Text) → complete t (atStart .due) ≡ false
 unfolding atStart
-start-lacks t = header-lacks t
+start-lacks t = refl
 
-pub header-judged : (t : Text) → Judges t atStart headerLine headerOrder (λ h. accessStage h [])
+pub header-judged : (t : Text) → Judges t atStart headerLine headerOrder afterHeader
 unfolding atStart
 header-judged t at fields = refl
 
@@ -72,13 +56,13 @@ access-no-process (field ∷ fields) y = rw (← same-iff wordAccess field .0 y)
 
 -- where a line that may be an access line has not its shape, the process line is due
 pub access-ends : (t : Text) (text : List ℕ) (at : ℕ) (h : Header) (access : List Access) → at ≤ length text → lineAt accessLine text at ≡ none
-    → onward t text at (accessStage h access) ≡ onward t text at (readTo processDue h access [] [])
+    → readOn t text at (accessStage h access) ≡ readOn t text at (setDue (accessStage h access) processDue)
 access-ends t text at h access l e =
     let fields = fieldsOf (firstLine (drop at text)) in
-    judged-alike t text at (accessStage h access) (readTo processDue h access [] []) l
+    judged-alike t text at (accessStage h access) (setDue (accessStage h access) processDue) l
     (λ w.
     by-test (startsAccess fields) (λ y. rw (y, access-no-process fields y, broken w)) (λ n. rw n))
-    (access-lacks t) (process-lacks t)
+    refl refl
   where
     broken : isWhole (drop at text) ≡ true → accessLine (fieldsOf (firstLine (drop at text))) ≡ none
     broken w = ⊎-elim (λ b. b .1) (λ n. absurd (true≢false (sym w ∙ n))) (line-none accessLine text at e)
@@ -93,7 +77,7 @@ processes-due t h access count e =
           λ desk l at fields.
           rw (lt-ltb (length desk) (h .processes) (omega arith))
           (judged-made at processFrom (readAs processShape fields) (processOrder (processStage h access desk)) (afterProcess (processStage h access desk)));
-      lacks = λ desk l. rw (lt-ltb (length desk) (h .processes) (omega arith)) (process-lacks t);
+      lacks = λ desk l. rw (lt-ltb (length desk) (h .processes) (omega arith));
     }
 
 pub files-due : (t : Text) (h : Header) (access : List Access) (desk : List ℕ) (count : ℕ) → count ≡ h .files
@@ -105,12 +89,12 @@ files-due t h access desk count e =
           λ class l at fields.
           rw (lt-ltb (length class) (h .files) (omega arith))
           (judged-made at fileFrom (readAs fileShape fields) (fileOrder (fileStage h access desk class)) (afterFile (fileStage h access desk class)));
-      lacks = λ class l. rw (lt-ltb (length class) (h .files) (omega arith)) (file-lacks t);
+      lacks = λ class l. rw (lt-ltb (length class) (h .files) (omega arith));
     }
 
-pub calls-judged : (s : SoFar) → s .due ≡ callsDue → Judges withCalls s callsLine (λ ns. []) (λ ns. afterCalls s)
+pub calls-judged : (s : SoFar) → s .due ≡ callsDue → Judges callsFollow s callsLine (λ ns. []) (λ ns. afterCalls s)
 calls-judged s e at fields = rw e
 
 pub call-judged : (s : SoFar) (calls : List Numbers)
-    → Judges withCalls (callStage s calls) callLine (λ n. callOrder (callStage s calls)) (λ n. callStage s (calls ++ (n ∷ [])))
+    → Judges callsFollow (callsSoFar s calls) callLine (λ n. callLineOrder (callsSoFar s calls)) (λ n. callsSoFar s (calls ++ (n ∷ [])))
 call-judged s calls at fields = refl

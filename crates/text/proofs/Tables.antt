@@ -17,7 +17,7 @@ use Rattle.rules.specs.Setups.{givenRight, givenRights}
 use Rattle.rules.proofs.Lists.{by-test, cond-holds, getD-alike}
 use Rattle.rules.proofs.Sizes.{length-table, getD-table, table-is}
 use Rattle.lines.specs.Shapes.{Access}
-use Rattle.lines.specs.Readings.{rises, rightIn}
+use Rattle.lines.specs.Readings.{rises, rightRead}
 use Rattle.lines.proofs.Rights.{Among, here, there, right-absent}
 use Rattle.text.specs.Stages.{AllInside, rightsOf}
 
@@ -48,7 +48,7 @@ module _ (desks classes : ℕ) (k : classes ≤ mostClasses) (a : Access) (l : a
 
 -- no line has given a right yet
 pub rights-none : replicate mostRights 0 ≡ rightsOf []
-unfolding rightsOf rightIn
+unfolding rightsOf rightRead
 rights-none = table-is mostRights (λ i. 0) (replicate mostRights 0) 0 (length-replicate {A = ℕ} mostRights 0) (λ i l. getD-replicate mostRights i 0 0 l)
 
 pub rights-length : (access : List Access) → length (rightsOf access) ≡ mostRights
@@ -56,13 +56,15 @@ unfolding rightsOf
 rights-length access = length-table mostRights _
 
 -- one more line sets the right at its place
-right-at-place : (a : Access) (access : List Access) (i : ℕ) → a .class < mostClasses → i ≡ placeOf a → a .right ≡ rightIn (a ∷ access) (i / mostClasses) (i % mostClasses)
-unfolding rightIn
+right-at-place : (a : Access) (access : List Access) (i : ℕ) → a .class < mostClasses → i ≡ placeOf a
+    → a .right ≡ rightRead (a ∷ access) (i / mostClasses) (i % mostClasses)
+unfolding rightRead
 right-at-place a access i l e =
     rw (e, digits-div (a .desk) l, digits-mod (a .desk) l, eq-eqb (a .desk) (a .desk) refl, eq-eqb (a .class) (a .class) refl)
 
-right-elsewhere : (a : Access) (access : List Access) (i : ℕ) → (i ≡ placeOf a → ⊥) → rightIn access (i / mostClasses) (i % mostClasses) ≡ rightIn (a ∷ access) (i / mostClasses) (i % mostClasses)
-unfolding rightIn
+right-elsewhere : (a : Access) (access : List Access) (i : ℕ) → (i ≡ placeOf a → ⊥)
+    → rightRead access (i / mostClasses) (i % mostClasses) ≡ rightRead (a ∷ access) (i / mostClasses) (i % mostClasses)
+unfolding rightRead
 right-elsewhere a access i h =
     by-test (eqb (a .desk) (i / mostClasses))
     (λ t.
@@ -72,8 +74,8 @@ right-elsewhere a access i h =
 pub rights-more : (a : Access) (access : List Access) → a .desk < mostDesks → a .class < mostClasses → set (rightsOf access) (placeOf a) (a .right) ≡ rightsOf (a ∷ access)
 unfolding rightsOf
 rights-more a access d l =
-    let old : ℕ → ℕ = λ i. rightIn access (i / mostClasses) (i % mostClasses) in
-    let new : ℕ → ℕ = λ i. rightIn (a ∷ access) (i / mostClasses) (i % mostClasses) in
+    let old : ℕ → ℕ = λ i. rightRead access (i / mostClasses) (i % mostClasses) in
+    let new : ℕ → ℕ = λ i. rightRead (a ∷ access) (i / mostClasses) (i % mostClasses) in
     let long = length-table mostRights old in
     table-is mostRights new (set (table mostRights old) (placeOf a) (a .right)) 0 (length-set (table mostRights old) (placeOf a) (a .right) ∙ long)
     (λ i b.
@@ -93,22 +95,22 @@ among-inside desks classes (b ∷ access) (d, c, i) a (there m) = among-inside d
 
 -- so the table of all places is the rights that the lines give inside the counts, with none past them
 pub rights-given : (desks classes : ℕ) (access : List Access) → classes ≤ mostClasses → AllInside desks classes access
-    → rightsOf access ≡ givenRights (table (desks * classes) (λ i. rightIn access (i / classes) (i % classes))) classes
+    → rightsOf access ≡ givenRights (table (desks * classes) (λ i. rightRead access (i / classes) (i % classes))) classes
 unfolding rightsOf givenRight
 rights-given desks classes access k i =
-    table-is mostRights _ (table mostRights (λ j. rightIn access (j / mostClasses) (j % mostClasses))) 0 (length-table mostRights _)
+    table-is mostRights _ (table mostRights (λ j. rightRead access (j / mostClasses) (j % mostClasses))) 0 (length-table mostRights _)
     (λ j b.
     let d = j / mostClasses in
     let t = j % mostClasses in
-    getD-table mostRights (λ j. rightIn access (j / mostClasses) (j % mostClasses)) j 0 b
-    ∙ cond-holds (λ (r : ℕ). rightIn access d t ≡ r) (ltb t classes)
+    getD-table mostRights (λ j. rightRead access (j / mostClasses) (j % mostClasses)) j 0 b
+    ∙ cond-holds (λ (r : ℕ). rightRead access d t ≡ r) (ltb t classes)
     (λ x. inside d t (ltb-true t classes x))
     (λ x. right-absent access d t (λ a m e f. let g = ltb-false t classes x in let h = among-inside desks classes access i a m in omega arith)))
   where
     own : ℕ → ℕ
-    own j = rightIn access (j / classes) (j % classes)
+    own j = rightRead access (j / classes) (j % classes)
 
-    inside : (d t : ℕ) → t < classes → rightIn access d t ≡ getD (table (desks * classes) own) (d * classes + t) 0
+    inside : (d t : ℕ) → t < classes → rightRead access d t ≡ getD (table (desks * classes) own) (d * classes + t) 0
     inside d t l =
         by-test (ltb d desks)
         (λ x.
@@ -136,6 +138,6 @@ entries-table n entries l =
     ∙ getD-drop (length entries) (replicate n 0) (i - length entries) 0 ∙ getD-alike n _ 0 ∙ sym (List·getD-eq-default entries 0 g)))
 
 -- numbers copied one by one to the front of a run
-pub copied-more : (onto numbers : List ℕ) (i : ℕ) → i < length onto → i < length numbers
+pub front-copied : (onto numbers : List ℕ) (i : ℕ) → i < length onto → i < length numbers
     → set (take i numbers ++ drop i onto) i (getD numbers i 0) ≡ take (i + 1) numbers ++ drop (i + 1) onto
-copied-more onto numbers i l m = rw add-one (simp zero-add at (paste-suc onto 0 numbers i 0 (rw zero-add l) m))
+front-copied onto numbers i l m = rw add-one (simp zero-add at (paste-suc onto 0 numbers i 0 (rw zero-add l) m))

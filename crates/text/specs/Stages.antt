@@ -1,44 +1,32 @@
 -- How each kind of a text's lines ends: sound as far as a cursor, with what they give; or refused, with the faulty line's offset.
 use Prim.Native.Nat.{ℕ, _*_, _/_, _%_, _<_, _≤_}
 use mathlib.Core.Path.{_≡_}
-use mathlib.Core.Bool.{false, cond, not}
+use mathlib.Core.Bool.{false, not}
 use mathlib.Core.List.{List, [], _∷_, _++_}
-use lib.Dec.{ltb, leb}
+use lib.Dec.{leb}
 use lib.ListN.{length, getD, drop}
 use Rattle.rules.specs.Sizes.{mostClasses, mostRights, table, mostCalls}
 use Rattle.rules.specs.Setups.{setupFrom, blankSetup}
-use Rattle.rules.specs.Calls.{Numbers, callWidth, inQuads}
+use Rattle.rules.specs.Calls.{callWidth, inQuads}
 use Rattle.rules.specs.Refusals.{Refusal, _gives_}
 use Rattle.rules.specs.Entries.{unless}
+use Rattle.rules.specs.declared.Numbers.{Numbers}
 use Rattle.rules.specs.declared.Setup.{Setup}
-use Rattle.lines.specs.Shapes.{theWord, aNumber, Shape, readAs, Header, Access}
-use Rattle.lines.specs.Readings.{Due, accessDue, processDue, fileDue, callsDue, callDue, SoFar, sound, refused, judged, refusal14, isNext, Text, withCalls, judgeDue, complete, readText, rightIn, bytesRead}
-use Rattle.text.specs.Onward.{onward}
-
-abbrev pub header : ℕ → ℕ → ℕ → ℕ → Header
-header desks classes processes files = record { desks = desks; classes = classes; processes = processes; files = files }
-
--- what is due, and what was read of a setup's lines
-abbrev pub readTo : Due → Header → List Access → List ℕ → List ℕ → SoFar
-readTo due counts access desk class =
-    record { due = due; counts = counts; access = access; desk = desk; class = class; calls = [] }
+use Rattle.lines.specs.Shapes.{theWord, aNumber, Shape, readAs, Header, header, Access}
+use Rattle.lines.specs.Readings.{processDue, callsDue, SoFar, afterHeader, setDue, setAccess, desksSoFar, classesSoFar, callsSoFar, afterCalls, sound, refused, judged, refusal14, isNext, Text, callsFollow, judgeDue, complete, readText, rightRead, bytesRead}
+use Rattle.text.specs.ReadOn.{readOn}
 
 -- after the header and access lines, the last first
 abbrev pub accessStage : Header → List Access → SoFar
-accessStage h access = readTo accessDue h access [] []
+accessStage h access = setAccess (afterHeader h) access
 
 -- after them and the process lines that give these desks
 abbrev pub processStage : Header → List Access → List ℕ → SoFar
-processStage h access desk = readTo (cond (ltb (length desk) (h .processes)) processDue fileDue) h access desk []
+processStage h access desk = desksSoFar (accessStage h access) desk
 
 -- after all of those and the file lines that give these classes
 abbrev pub fileStage : Header → List Access → List ℕ → List ℕ → SoFar
-fileStage h access desk class = readTo (cond (ltb (length class) (h .files)) fileDue callsDue) h access desk class
-
--- after a setup's lines, the `calls` line and call lines
-abbrev pub callStage : SoFar → List Numbers → SoFar
-callStage s calls =
-    record { due = callDue; counts = s .counts; access = s .access; desk = s .desk; class = s .class; calls = calls }
+fileStage h access desk class = classesSoFar (processStage h access desk) class
 
 -- access lines lie inside the counts
 abbrev pub AllInside : ℕ → ℕ → List Access → Type 0
@@ -47,7 +35,7 @@ AllInside desks classes (a ∷ rest) = (a .desk < desks) × (a .class < classes)
 
 -- the rights that they give, each at its place
 unfoldable pub rightsOf : List Access → List ℕ
-rightsOf access = table mostRights (λ i. rightIn access (i / mostClasses) (i % mostClasses))
+rightsOf access = table mostRights (λ i. rightRead access (i / mostClasses) (i % mostClasses))
 
 -- access lines that are sound as far as a cursor, where a process line is due
 pub record AccessRead (desks classes : ℕ) (text : List ℕ) (at end : ℕ) (rights : List ℕ) : Type 0 where
@@ -56,13 +44,13 @@ pub record AccessRead (desks classes : ℕ) (text : List ℕ) (at end : ℕ) (ri
   pub are : rights ≡ rightsOf access
   pub within : end ≤ length text
   pub leads : (t : Text) (processes files : ℕ)
-      → (let h = header desks classes processes files in onward t text at (accessStage h []) ≡ onward t text end (readTo processDue h access [] []))
+      → (let h = header desks classes processes files in readOn t text at (afterHeader h) ≡ readOn t text end (setDue (accessStage h access) processDue))
 
 abbrev pub AccessEnd : ℕ → ℕ → List ℕ → ℕ → ℕ → ℕ → List ℕ → Type 0
 AccessEnd desks classes text at refusal end rights =
     unless refusal
     (AccessRead desks classes text at end rights)
-    ((t : Text) (processes files : ℕ) → onward t text at (accessStage (header desks classes processes files) []) ≡ refused refusal end)
+    ((t : Text) (processes files : ℕ) → readOn t text at (afterHeader (header desks classes processes files)) ≡ refused refusal end)
 
 -- an entry is a byte
 abbrev pub mostEntry : ℕ
@@ -92,18 +80,18 @@ ForEntries word bound refusal count P = (t : Text) (stage : List ℕ → SoFar) 
 pub record EntriesRead (text : List ℕ) (at : ℕ) (word : List ℕ) (bound refusal count end : ℕ) (entries : List ℕ) : Type 0 where
   pub long : length entries ≡ count
   pub within : end ≤ length text
-  pub leads : ForEntries word bound refusal count (λ t stage. onward t text at (stage []) ≡ onward t text end (stage entries))
+  pub leads : ForEntries word bound refusal count (λ t stage. readOn t text at (stage []) ≡ readOn t text end (stage entries))
 
 abbrev pub EntriesEnd : List ℕ → ℕ → List ℕ → ℕ → ℕ → ℕ → ℕ → ℕ → List ℕ → Type 0
 EntriesEnd text at word bound refusal count given end entries =
     unless given
     (EntriesRead text at word bound refusal count end entries)
-    (ForEntries word bound refusal count (λ t stage. onward t text at (stage []) ≡ refused given end))
+    (ForEntries word bound refusal count (λ t stage. readOn t text at (stage []) ≡ refused given end))
 
 -- a setup's lines that are sound as far as a cursor, with the setup that they give
 pub record SetupLines (t : Text) (text : List ℕ) (end : ℕ) (setup : Setup) : Type 0 where
   pub so-far : SoFar
-  pub leads : readText t text ≡ onward t text end so-far
+  pub leads : readText t text ≡ readOn t text end so-far
   pub ended : so-far .due ≡ callsDue
   pub no-calls : so-far .calls ≡ []
   pub is : setup ≡ setupFrom (bytesRead so-far)
@@ -116,12 +104,12 @@ SetupEnd t text refusal end setup =
 
 -- the same of the lines after a header that is sound, and after access lines that are
 abbrev pub AfterHeader : List ℕ → ℕ → Header → ℕ → ℕ → Setup → Type 0
-AfterHeader text at h refusal end setup = (t : Text) → readText t text ≡ onward t text at (accessStage h []) → SetupEnd t text refusal end setup
+AfterHeader text at h refusal end setup = (t : Text) → readText t text ≡ readOn t text at (afterHeader h) → SetupEnd t text refusal end setup
 
 abbrev pub AfterAccess : List ℕ → ℕ → Header → List ℕ → ℕ → ℕ → Setup → Type 0
 AfterAccess text at h rights refusal end setup =
     (t : Text) (access : List Access) → AllInside (h .desks) (h .classes) access → rights ≡ rightsOf access
-    → readText t text ≡ onward t text at (readTo processDue h access [] []) → SetupEnd t text refusal end setup
+    → readText t text ≡ readOn t text at (setDue (accessStage h access) processDue) → SetupEnd t text refusal end setup
 
 -- call lines that are sound to the end of the text, at the front of a run
 pub record CallsRead (text : List ℕ) (at count : ℕ) (was run : List ℕ) : Type 0 where
@@ -129,10 +117,10 @@ pub record CallsRead (text : List ℕ) (at count : ℕ) (was run : List ℕ) : T
   pub count-is : length calls ≡ count
   pub few : count ≤ mostCalls
   pub are : run ≡ inQuads calls ++ drop (count * callWidth) was
-  pub leads : (s : SoFar) → onward withCalls text at (callStage s []) ≡ sound (callStage s calls)
+  pub leads : (s : SoFar) → readOn callsFollow text at (afterCalls s) ≡ sound (callsSoFar s calls)
 
 abbrev pub CallsEnd : List ℕ → ℕ → ℕ → ℕ → ℕ → List ℕ → List ℕ → Type 0
 CallsEnd text at refusal end count was run =
     unless refusal
     (CallsRead text at count was run)
-    ((s : SoFar) → onward withCalls text at (callStage s []) ≡ refused refusal end)
+    ((s : SoFar) → readOn callsFollow text at (afterCalls s) ≡ refused refusal end)

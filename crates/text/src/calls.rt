@@ -2,6 +2,7 @@
 use crate::CallSpan;
 use fields::shapes::call_at;
 use lists::writing::put_call;
+use rules::BREAKS_RULES;
 use rules::CALLS;
 ghost use Prim.Native.Nat.{_*_, _≤_};
 ghost use lib.ListN.{length};
@@ -19,7 +20,7 @@ pub fn call_lines(text: &[u8], start: usize, calls: &mut [u32]) -> CallSpan
     while at < text.len() {
         if CALLS <= count {
             return CallSpan {
-                refusal: 14,
+                refusal: BREAKS_RULES,
                 at,
                 count: 0,
             };
@@ -27,12 +28,13 @@ pub fn call_lines(text: &[u8], start: usize, calls: &mut [u32]) -> CallSpan
         let line = call_at(text, at);
         if line.next == 0 {
             return CallSpan {
-                refusal: 14,
+                refusal: BREAKS_RULES,
                 at,
                 count: 0,
             };
         }
-        put_call(calls, count, line.op, line.p, line.f, line.x);
+        let numbers = line.numbers;
+        put_call(calls, count, numbers);
         at = line.next;
         count += 1;
     }

@@ -5,8 +5,10 @@ use fields::shapes::calls_at;
 use judging::accepting::blank_setup;
 use lines::GivenText;
 use lines::Reading;
+use rules::BREAKS_RULES;
 use rules::CALL_WIDTH;
 use rules::CALLS;
+use rules::TOO_LITTLE_ROOM;
 ghost use mathlib.Core.Path.{_≡_};
 ghost use mathlib.Core.List.{_++_};
 ghost use Prim.Native.Nat.{_≤_};
@@ -45,7 +47,7 @@ pub fn read_alone(text: &[u8]) -> GivenText
     }
     // a further line
     if read.at < text.len() {
-        return refused_text(14, read.at);
+        return refused_text(BREAKS_RULES, read.at);
     }
     let reading = Reading::Read(0);
     let setup = read.setup;
@@ -60,7 +62,7 @@ pub fn read_with_calls(text: &[u8], room: &mut [u32]) -> GivenText
     ensures numbers { λ r. ⌜ textNumbersOf (r .reading) ≡ textNumbersOf (readWithCalls (now (text .entry)) (length (now (room .entry))) .reading) ⌝ }
 {
     if room.len() < CALLS * CALL_WIDTH {
-        return refused_text(11, 0);
+        return refused_text(TOO_LITTLE_ROOM, 0);
     }
     let read = read_setup(text);
     if read.refusal != 0 {
@@ -68,7 +70,7 @@ pub fn read_with_calls(text: &[u8], room: &mut [u32]) -> GivenText
     }
     let first = calls_at(text, read.at);
     if first == 0 {
-        return refused_text(14, read.at);
+        return refused_text(BREAKS_RULES, read.at);
     }
     let mut calls = [0u32; CALLS * CALL_WIDTH];
     let lines = call_lines(text, first, &mut calls);

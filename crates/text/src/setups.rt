@@ -3,14 +3,18 @@ use crate::SetupRead;
 use crate::Span;
 use fields::Counts;
 use fields::shapes::access_at;
-use fields::shapes::entry_at;
+use fields::shapes::entry_line_at;
 use fields::shapes::header_at;
-use fields::words::FILE;
-use fields::words::PROCESS;
+use fields::words::WORD_FILE;
+use fields::words::WORD_PROCESS;
 use judging::accepting::blank_setup;
 use judging::fitting::within_sizes;
+use rules::BREAKS_RULES;
 use rules::CLASSES;
+use rules::COUNT_OUTSIDE;
 use rules::FILES;
+use rules::NO_SUCH_CLASS;
+use rules::NO_SUCH_DESK;
 use rules::PROCESSES;
 use rules::RIGHTS;
 use rules::Setup;
@@ -20,9 +24,10 @@ ghost use Prim.Native.Nat.{_<_, _≤_};
 ghost use lib.ListN.{length, replicate};
 ghost use Rattle.rules.specs.Sizes.{mostDesks, mostClasses, mostRights};
 ghost use Rattle.rules.specs.Setups.{withinSizes, blankSetup};
+ghost use Rattle.lines.specs.Shapes.{header};
 ghost use Rattle.lines.specs.Readings.{Text};
-ghost use Rattle.fields.specs.Cursor.{noMark};
-ghost use Rattle.text.specs.Stages.{header, mostEntry, AccessEnd, EntriesEnd, SetupEnd, AfterHeader, AfterAccess};
+ghost use Rattle.fields.specs.Cursor.{noStop};
+ghost use Rattle.text.specs.Stages.{mostEntry, AccessEnd, EntriesEnd, SetupEnd, AfterHeader, AfterAccess};
 
 // The access lines from a cursor on. They end at the first line that has not their shape: if its first field is `access`
 // all the same, the process line that is due finds it broken at the same offset.
@@ -39,14 +44,23 @@ fn access_lines(text: &[u8], start: usize, desks: u32, classes: u32, rights: &mu
             return Span { refusal: 0, at };
         }
         if desks <= line.desk {
-            return Span { refusal: 3, at };
+            return Span {
+                refusal: NO_SUCH_DESK,
+                at,
+            };
         }
         if classes <= line.class {
-            return Span { refusal: 4, at };
+            return Span {
+                refusal: NO_SUCH_CLASS,
+                at,
+            };
         }
         let place = line.desk as usize * CLASSES + line.class as usize;
         if place < least {
-            return Span { refusal: 14, at };
+            return Span {
+                refusal: BREAKS_RULES,
+                at,
+            };
         }
         rights[place] = line.right as u8;
         least = place + 1;
@@ -63,21 +77,27 @@ fn entry_lines(
     refusal: u32,
     entries: &mut [u8],
 ) -> Span
-    requires { ⌜ (start ≤ length (now text)) × (noMark (now word) ≡ true) × (bound ≤ mostEntry) × (0 < refusal) ⌝ }
+    requires { ⌜ (start ≤ length (now text)) × (noStop (now word) ≡ true) × (bound ≤ mostEntry) × (0 < refusal) ⌝ }
     ensures { λ r. ⌜ EntriesEnd (now (text .entry)) start (now (word .entry)) bound refusal (length (now (entries .entry))) (r .refusal) (r .at) (now (entries .exit)) ⌝ }
 {
     let mut at = start;
     let mut i = 0;
     while i < entries.len() {
-        let line = entry_at(text, at, word);
+        let line = entry_line_at(text, at, word);
         if line.next == 0 {
-            return Span { refusal: 14, at };
+            return Span {
+                refusal: BREAKS_RULES,
+                at,
+            };
         }
         if bound <= line.second {
             return Span { refusal, at };
         }
         if line.first as usize != i {
-            return Span { refusal: 14, at };
+            return Span {
+                refusal: BREAKS_RULES,
+                at,
+            };
         }
         entries[i] = line.second as u8;
         at = line.next;
@@ -100,13 +120,27 @@ fn entry_tables(text: &[u8], at: usize, counts: Counts, rights: [u8; RIGHTS]) ->
 {
     let mut desk = [0u8; PROCESSES];
     let p = counts.processes as usize;
-    let process = entry_lines(text, at, &PROCESS, counts.desks, 3, &mut desk[..p]);
+    let process = entry_lines(
+        text,
+        at,
+        &WORD_PROCESS,
+        counts.desks,
+        NO_SUCH_DESK,
+        &mut desk[..p],
+    );
     if process.refusal != 0 {
         return refused_setup(process.refusal, process.at);
     }
     let mut class = [0u8; FILES];
     let f = counts.files as usize;
-    let file = entry_lines(text, process.at, &FILE, counts.classes, 4, &mut class[..f]);
+    let file = entry_lines(
+        text,
+        process.at,
+        &WORD_FILE,
+        counts.classes,
+        NO_SUCH_CLASS,
+        &mut class[..f],
+    );
     if file.refusal != 0 {
         return refused_setup(file.refusal, file.at);
     }
@@ -145,10 +179,10 @@ pub fn read_setup(text: &[u8]) -> SetupRead
 {
     let counts = header_at(text, 0);
     if counts.next == 0 {
-        return refused_setup(14, 0);
+        return refused_setup(BREAKS_RULES, 0);
     }
     if !within_sizes(counts.desks, counts.classes, counts.processes, counts.files) {
-        return refused_setup(1, 0);
+        return refused_setup(COUNT_OUTSIDE, 0);
     }
     table_lines(text, counts)
 }

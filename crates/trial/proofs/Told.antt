@@ -11,7 +11,7 @@ use lib.ListN.{length, take, drop, replicate}
 use Rattle.rules.specs.Calls.{callsIn}
 use Rattle.rules.specs.declared.Setup.{Setup}
 use Rattle.rules.specs.declared.Store.{Store}
-use Rattle.lists.specs.Lists.{listed, roomAfter}
+use Rattle.lists.specs.Lists.{listed, answersAfter}
 use Rattle.lists.specs.declared.Listed.{Listed}
 use Rattle.lists.specs.declared.ListAnswer.the-variants.{Ran}
 use Rattle.routes.specs.Reports.{mostRouteNumbers, routed, routeNumbersOf}
@@ -21,7 +21,7 @@ use Rattle.trial.specs.Trials.{untouched, roomOf, answersRoom, writtenIn
 use Rattle.trial.proofs.Alike.{told-both, numbers-tell}
 
 module _ (s : Setup) (m : Store) (list : List ℕ) {l : Listed} (e : l ≡ listed s m list answersRoom) where
-  pub answers-told : {x y : Bool} (expected : List ℕ) {now : List ℕ} → now ≡ roomAfter s m list answersRoom → length now ≡ mostRouteNumbers
+  pub answers-told : {x y : Bool} (expected : List ℕ) {now : List ℕ} → now ≡ answersAfter s m list answersRoom → length now ≡ mostRouteNumbers
       → (x ≡ true) ↔ (l .answer ≡ Ran (callsIn list)) → (y ≡ true) ↔ (now ≡ writtenInto expected (roomOf (length now)))
       → (x && y ≡ true) ↔ Answers s m list expected
   unfolding Answers

@@ -1,6 +1,6 @@
 -- The twelve sheets of trial come out as 01 says, by computation. That a store fits is cited: all else is computed.
 -- Assumes nothing.
-use Prim.Native.Nat.{ℕ, zero, suc, _*_, _<_}
+use Prim.Native.Nat.{ℕ, zero, suc, _+_, _*_, _<_}
 use mathlib.Core.Path.{_≡_, refl, ap, _∙_}
 use mathlib.Core.Logic.{_≢_}
 use mathlib.Core.Bool.{Bool, true}
@@ -11,16 +11,16 @@ use lib.ListN.{length, getD, drop}
 use Rattle.secrecy.specs.Machine.{after, answersWhere}
 use Rattle.rules.specs.Sizes.{every, someBelow, table}
 use Rattle.rules.specs.Setups.{mayRead, mayWrite, withinSizes, entryFits, rowFits, rightsFit, desksFit, classesFit, accepted, givenRight, setupFrom}
-use Rattle.rules.specs.Stores.{holderOf, freshStore, holderFits, markFits, fits}
-use Rattle.rules.specs.Calls.{callOf, goesThrough, effect, says, answerTo, nextStore, callsIn, callsOf, inQuads}
+use Rattle.rules.specs.Stores.{blankContent, holderOf, freshStore, holderFits, markFits, fits}
+use Rattle.rules.specs.Calls.{writtenTo, callOf, goesThrough, effect, says, answerTo, nextStore, callsIn, callsOf, inQuads}
 use Rattle.rules.specs.Refusals.{firstOf, someFrom, slicesMatch, setupRefusal, numbersRefusal}
 use Rattle.rules.specs.Entries.{acceptance, ran}
 use Rattle.rules.specs.Links.{hasProcess, linked}
 use Rattle.rules.specs.declared.Setup.{Setup}
 use Rattle.rules.specs.declared.Store.{Store}
 use Rattle.rules.proofs.Refusals.{judgeRefusal-iff}
-use Rattle.rules.proofs.Stores.{freshStore-fits, fits-withSheet}
-use Rattle.lists.specs.Lists.{answerWidth, inNumbers, endOf, answersOver, refusal10, refusal11, listRefusal}
+use Rattle.rules.proofs.Stores.{freshStore-fits, fits-putHolder, fits-putContent, fits-putMark}
+use Rattle.lists.specs.Lists.{answerWidth, inNumbers, endOf, answersOver, refusal10OfList, refusal11OfList, listRefusal}
 use Rattle.lists.proofs.Lists.{list-judged, listed-runs, room-runs}
 use Rattle.chains.specs.Chains.{lowest, nearer, reach, nextDesk, walk, chainOf}
 use Rattle.demand.specs.Routes.{onward, routeCalls}
@@ -38,7 +38,7 @@ computes = true
 
 -- neither 10 nor 11 is held against the list
 abbrev Whole : List ℕ → Type 0
-Whole list = firstOf (refusal10 (length list) ∷ refusal11 (length list) (length answersRoom) ∷ []) ≡ 0
+Whole list = firstOf (refusal10OfList (length list) ∷ refusal11OfList (length list) (length answersRoom) ∷ []) ≡ 0
 
 -- its run writes the answers into the room
 abbrev Comes : Setup → Store → List ℕ → List ℕ → Type 0
@@ -76,7 +76,9 @@ eight-accepted = refl
 -- the store of case 12 fits Q, and is not fresh
 in-use-fits : fits q inUse ≡ true
 unfolding computes
-in-use-fits = fits-withSheet q freshStore 1 0 _ (omega arith) (omega arith) (freshStore-fits q) refl refl
+in-use-fits =
+    let written = fits-putContent q freshStore 0 (omega arith) (freshStore-fits q) (writtenTo blankContent 5) in
+    fits-putMark q _ 0 (omega arith) (fits-putHolder q _ 0 (omega arith) written (0 + 1) refl) 1 1 (omega arith) refl
 
 pub in-use-not-fresh : inUse ≢ freshStore
 unfolding inUse freshStore

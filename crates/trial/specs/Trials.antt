@@ -6,9 +6,10 @@ use mathlib.Core.List.{List, [], _∷_, _++_}
 use lib.ListN.{length, drop, replicate}
 use Rattle.rules.specs.Sizes.{mostNumber}
 use Rattle.rules.specs.Setups.{SetupBytes, setupBytes}
-use Rattle.rules.specs.Stores.{freshStore, withSheet}
-use Rattle.rules.specs.Calls.{Numbers, numbers, codeOfTestlock, callsIn, inQuads}
+use Rattle.rules.specs.Stores.{blankContent, putHolder, putContent, putMark, freshStore}
+use Rattle.rules.specs.Calls.{numbers, writtenTo, codeOfTestlock, callsIn, inQuads}
 use Rattle.rules.specs.Entries.{acceptance}
+use Rattle.rules.specs.declared.Numbers.{Numbers}
 use Rattle.rules.specs.declared.Setup.{Setup}
 use Rattle.rules.specs.declared.Store.{Store}
 use Rattle.views.specs.Case8.{setup8}
@@ -25,7 +26,7 @@ setupQ = setupBytes 3 2 3 2 (2 ∷ 0 ∷ 1 ∷ 2 ∷ 0 ∷ 1 ∷ []) (0 ∷ 1 �
 
 -- a store of Q that is not fresh: file 0 holds 5, process 0 has it locked, process 1 has it open
 unfoldable pub inUse : Store
-inUse = withSheet freshStore 1 0 (record { holder = 0 + 1; content = record { figure = 5 }; mark = 1 })
+inUse = putMark (putHolder (putContent freshStore 0 (writtenTo blankContent 5)) 0 (0 + 1)) 0 1 1
 
 abbrev pub testlockCall : ℕ → ℕ → Numbers
 testlockCall p f = numbers codeOfTestlock p f 0
@@ -159,7 +160,7 @@ writtenInto front room = front ++ drop (length front) room
 unfoldable pub Answers : Setup → Store → List ℕ → List ℕ → Type 0
 Answers s m list answers =
     (listed s m list answersRoom .answer ≡ Ran (callsIn list))
-    × (lists.roomAfter s m list answersRoom ≡ writtenInto answers answersRoom)
+    × (lists.answersAfter s m list answersRoom ≡ writtenInto answers answersRoom)
 
 -- the list leaves the store
 unfoldable pub Leaves : Setup → Store → List ℕ → Store → Type 0

@@ -7,6 +7,9 @@ use routes::report::report;
 use rules::CALL_WIDTH;
 use rules::Content;
 use rules::FILES;
+use rules::KIND_NO_ROUTE;
+use rules::KIND_REFUSED;
+use rules::KIND_ROUTE;
 use rules::Setup;
 use rules::Store;
 ghost use mathlib.Core.Path.{_≡_};
@@ -22,7 +25,7 @@ ghost use Rattle.trial.specs.Trials.{untouched, roomOf, writtenInto, Ans
 pub const UNTOUCHED: u32 = 4294967295;
 
 // The front's number at a place, and past its end what the room held before.
-fn number_at(front: &[u32], i: usize) -> u32
+fn front_at(front: &[u32], i: usize) -> u32
     ensures { λ r. ⌜ r ≡ getD (now (front .entry)) i untouched ⌝ }
 {
     if i < front.len() { front[i] } else { UNTOUCHED }
@@ -37,7 +40,7 @@ fn holds(room: &[u32], front: &[u32]) -> bool
     }
     let mut i = 0;
     while i < room.len() {
-        if room[i] != number_at(front, i) {
+        if room[i] != front_at(front, i) {
             return false;
         }
         i += 1;
@@ -64,17 +67,17 @@ pub fn answers(setup: Setup, store: Store, calls: &[u32], expected: &[u32]) -> b
     has_run(answer, calls.len() / CALL_WIDTH) & holds(&room, expected)
 }
 
-fn kind_of(answer: RouteAnswer) -> u32
+fn route_kind(answer: RouteAnswer) -> u32
     ensures { λ r. ⌜ r ≡ routeNumbersOf answer .0 ⌝ }
 {
     match answer {
-        RouteAnswer::NoRoute => 0,
-        RouteAnswer::Route(_) => 1,
-        RouteAnswer::Refused(_) => 4,
+        RouteAnswer::NoRoute => KIND_NO_ROUTE,
+        RouteAnswer::Route(_) => KIND_ROUTE,
+        RouteAnswer::Refused(_) => KIND_REFUSED,
     }
 }
 
-fn value_of(answer: RouteAnswer) -> u32
+fn route_value(answer: RouteAnswer) -> u32
     ensures { λ r. ⌜ r ≡ routeNumbersOf answer .1 ⌝ }
 {
     match answer {
@@ -98,7 +101,7 @@ fn reports_in(
     ensures { λ r. ⌜ (r ≡ true) ↔ Reports setup a b (length (now (room .entry))) (kind, value) (now (list .entry)) ⌝ }
 {
     let answer = report(setup, a, b, room);
-    (kind_of(answer) == kind) & (value_of(answer) == value) & holds(room, list)
+    (route_kind(answer) == kind) & (route_value(answer) == value) & holds(room, list)
 }
 
 // The same with room for n numbers.

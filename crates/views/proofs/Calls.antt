@@ -1,12 +1,14 @@
 -- The eight calls, one by one: what decides each, what it shows, and what it changes.
 -- Assumes nothing.
-use Prim.Native.Nat.{ℕ}
+use Prim.Native.Nat.{ℕ, _<_, _≤_}
 use mathlib.Core.Path.{_≡_, refl}
 use mathlib.Core.Bool.{true, false, and-false}
-use mathlib.Core.Logic.{_⊎_, inl, inr}
-use Rattle.rules.specs.Setups.{mayRead, mayWrite}
+use mathlib.Core.Logic.{_⊎_, inl, inr, _≢_}
+use Rattle.rules.specs.Sizes.{mostProcesses}
+use Rattle.rules.specs.Setups.{deskOf, mayRead, mayWrite}
 use Rattle.rules.specs.Stores.{holderOf}
-use Rattle.rules.specs.Calls.{processOf, fileOf, changeable, targetOf, goesThrough, effect, says, answerTo}
+use Rattle.rules.specs.Calls.{goesThrough, effect, says, answerTo}
+use Rattle.rules.specs.Parts.{processOf, fileOf, changeable}
 use Rattle.rules.specs.declared.Setup.{Setup}
 use Rattle.rules.specs.declared.Store.{Store}
 use Rattle.rules.specs.declared.Call.{Call}
@@ -14,24 +16,12 @@ use Rattle.rules.specs.declared.Call.the-variants.{Read, Write, Lock, Unlock, O
 use Rattle.rules.specs.declared.Answer.{Answer}
 use Rattle.rules.specs.declared.Answer.the-variants.{Nothing}
 use Rattle.rules.proofs.Lists.{cond-holds}
-use Rattle.views.proofs.Sheets.{SameOf, SameTo}
+use Rattle.views.specs.Views.{Sees, SameOf, Alike}
+use Rattle.views.proofs.Alike.{equivalence, holders-alike, contents-alike, marks-alike, holder-unseen, content-unseen, mark-unseen}
 
 -- process p may not read file f, or meets the same of it in both stores
 abbrev pub SameIfRead : Setup → ℕ → ℕ → Store → Store → Type 0
 SameIfRead s p f m k = (mayRead s p f ≡ false) ⊎ SameOf p f m k
-
--- with no W on the file that it can change, a call that goes through alters there no more than its own process's mark
-pub without-W : (s : Setup) (m : Store) (call : Call) → mayWrite s (processOf call) (changeable call) ≡ false → goesThrough s m call ≡ true →
-    (targetOf m call .holder ≡ effect m call .holder) × (targetOf m call .content ≡ effect m call .content)
-unfolding goesThrough effect
-without-W s m (Read p f) no-W goes = (refl, refl)
-without-W s m (Write p f x) no-W goes = (cc, cc)
-without-W s m (Lock p f) no-W goes = (cc, cc)
-without-W s m (Unlock p f) no-W goes = (cc, cc)
-without-W s m (Open p f) no-W goes = (refl, refl)
-without-W s m (Close p f) no-W goes = (refl, refl)
-without-W s m (Testlock p f) no-W goes = (refl, refl)
-without-W s m (Copy p f x) no-W goes = (cc, cc (and-false (mayRead s p f)))
 
 module _ (s : Setup) (m k : Store) where
   -- a call that has nothing to say answers the same whether or not it goes through
@@ -72,16 +62,35 @@ module _ (s : Setup) (m k : Store) where
   goes-alike (Copy p f x) (inl no-R) h = cc
   goes-alike (Copy p f x) (inr seen) h = cc
 
-  -- what a call makes of the file that it can change is decided by that file's sheet and by what its process sees
-  pub effects-alike : (q : ℕ) (call : Call) → SameIfRead s (processOf call) (fileOf call) m k → goesThrough s m call ≡ true →
-      SameTo q (processOf call) (targetOf m call) (targetOf k call) → SameTo q (processOf call) (effect m call) (effect k call)
+-- a call is of another desk than u, and has no W on the file that it can change
+pub record Apart (s : Setup) (u : ℕ) (call : Call) : Type 0 where
+  pub desk : deskOf s (processOf call) ≢ u
+  pub no-W : mayWrite s (processOf call) (changeable call) ≡ false
+
+module _ (s : Setup) (few : s .processes ≤ mostProcesses) (u : ℕ) (m : Store) where
+  -- a call that goes through is not seen, if it is apart where it would be
+  pub effect-unseen : (call : Call) → processOf call < s .processes → ((q : ℕ) → Sees s u q (changeable call) → Apart s u call) →
+      goesThrough s m call ≡ true → Alike s u m (effect m call)
   unfolding goesThrough effect
-  effects-alike q (Read p f) own goes seen = seen
-  effects-alike q (Write p f x) own goes seen = record { holder = seen .holder; content = cc; mark = seen .mark }
-  effects-alike q (Lock p f) own goes seen = record { holder = refl; content = seen .content; mark = seen .mark }
-  effects-alike q (Unlock p f) own goes seen = record { holder = refl; content = seen .content; mark = seen .mark }
-  effects-alike q (Open p f) own goes seen = record { holder = seen .holder; content = seen .content; mark = λ e. refl }
-  effects-alike q (Close p f) own goes seen = record { holder = seen .holder; content = seen .content; mark = λ e. refl }
-  effects-alike q (Testlock p f) own goes seen = seen
-  effects-alike q (Copy p f x) (inl no-R) goes seen = record { holder = seen .holder; content = cc; mark = seen .mark }
-  effects-alike q (Copy p f x) (inr own) goes seen = record { holder = seen .holder; content = cc; mark = seen .mark }
+  effect-unseen (Read p f) exists apart goes = equivalence s u .reflexive m
+  effect-unseen (Write p f x) exists apart goes = content-unseen s u f (λ q o. cc (apart q o .no-W))
+  effect-unseen (Lock p f) exists apart goes = holder-unseen s u f (λ q o. cc (apart q o .no-W))
+  effect-unseen (Unlock p f) exists apart goes = holder-unseen s u f (λ q o. cc (apart q o .no-W))
+  effect-unseen (Open p f) exists apart goes = mark-unseen s u f few p exists (λ o. absurd (apart p o .desk (o .process .sits)))
+  effect-unseen (Close p f) exists apart goes = mark-unseen s u f few p exists (λ o. absurd (apart p o .desk (o .process .sits)))
+  effect-unseen (Testlock p f) exists apart goes = equivalence s u .reflexive m
+  effect-unseen (Copy p f x) exists apart goes = content-unseen s u x (λ q o. cc (apart q o .no-W, and-false (mayRead s p f)))
+
+  -- what a call leaves of stores that look alike is decided by them and by what its process sees
+  pub effects-alike : {k : Store} → Alike s u m k → (call : Call) → processOf call < s .processes → SameIfRead s (processOf call) (fileOf call) m k →
+      goesThrough s m call ≡ true → Alike s u (effect m call) (effect k call)
+  unfolding goesThrough effect
+  effects-alike alike (Read p f) exists own goes = alike
+  effects-alike alike (Write p f x) exists own goes = contents-alike s u alike f (λ q o. let seen = alike .meets q f o in cc)
+  effects-alike alike (Lock p f) exists own goes = holders-alike s u alike f (λ q o. refl)
+  effects-alike alike (Unlock p f) exists own goes = holders-alike s u alike f (λ q o. refl)
+  effects-alike alike (Open p f) exists own goes = marks-alike s u alike f few p exists (λ o. refl)
+  effects-alike alike (Close p f) exists own goes = marks-alike s u alike f few p exists (λ o. refl)
+  effects-alike alike (Testlock p f) exists own goes = alike
+  effects-alike alike (Copy p f x) exists (inl no-R) goes = contents-alike s u alike x (λ q o. cc)
+  effects-alike alike (Copy p f x) exists (inr own) goes = contents-alike s u alike x (λ q o. let seen = alike .meets q x o in cc)

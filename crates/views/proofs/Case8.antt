@@ -12,8 +12,8 @@ use Rattle.secrecy.specs.Sets.{Desks, OfEither, of-H, of-L, of-nobody, Closed}
 use Rattle.secrecy.proofs.Closed.{desk-unheard}
 use Rattle.rules.specs.Sizes.{every, someBelow, table}
 use Rattle.rules.specs.Setups.{withinSizes, entryFits, rowFits, rightsFit, desksFit, classesFit, accepted, givenRight, setupFrom}
-use Rattle.rules.specs.Calls.{Numbers}
 use Rattle.rules.specs.Links.{deskOfCall, hasProcess, linked}
+use Rattle.rules.specs.declared.Numbers.{Numbers}
 use Rattle.rules.specs.declared.Store.{Store}
 use Rattle.views.specs.Machine.{machine, linkedTo}
 use Rattle.views.specs.Views.{OfDesk}

@@ -6,9 +6,11 @@ use mathlib.Core.Logic.{_≢_}
 use mathlib.Core.Option.{none, some, Option·some-injective, Option·none-ne-some, Option·some-ne-none}
 use lib.Dec.{ltb}
 use borrow.Author.Tests.{ltb-true, lt-ltb}
-use Rattle.rules.specs.Calls.{Numbers, callOf, processOf}
+use Rattle.rules.specs.Calls.{callOf}
+use Rattle.rules.specs.Parts.{processOf}
 use Rattle.rules.specs.Refusals.{numbersRefusal}
 use Rattle.rules.specs.Links.{deskOfCall}
+use Rattle.rules.specs.declared.Numbers.{Numbers}
 use Rattle.rules.specs.declared.Setup.{Setup}
 use Rattle.rules.proofs.Lists.{by-test}
 use Rattle.rules.proofs.Codes.{processOf-callOf}

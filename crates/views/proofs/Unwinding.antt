@@ -8,10 +8,11 @@ use mathlib.Mathlib.Data.Bool.Basic.{eq-false-of-not-eq-true}
 use borrow.Author.Tests.{eq-eqb}
 use Rattle.secrecy.specs.Views.{Unwinding}
 use Rattle.rules.specs.Setups.{mayRead, mayWrite, accepted}
-use Rattle.rules.specs.Calls.{Numbers, callOf, answerTo}
+use Rattle.rules.specs.Calls.{callOf, answerTo}
 use Rattle.rules.specs.Refusals.{numbersRefusal}
 use Rattle.rules.specs.Entries.{outcome, ran}
 use Rattle.rules.specs.Links.{hasProcess, serves, linked}
+use Rattle.rules.specs.declared.Numbers.{Numbers}
 use Rattle.rules.specs.declared.Setup.{Setup}
 use Rattle.rules.specs.declared.Store.{Store}
 use Rattle.rules.proofs.Lists.{by-test}
@@ -21,7 +22,7 @@ use Rattle.rules.proofs.Refusals.{numbers-exist}
 use Rattle.views.specs.Machine.{machine, linkedTo}
 use Rattle.views.specs.Views.{OfDesk, Sees, Alike}
 use Rattle.views.proofs.Tests.{by-refusal}
-use Rattle.views.proofs.Sheets.{equivalence, seen}
+use Rattle.views.proofs.Alike.{equivalence}
 use Rattle.views.proofs.Numbers.{of-desk, nobody-refused}
 use Rattle.views.proofs.Calls.{SameIfRead, answers-alike}
 use Rattle.views.proofs.Steps.{stays, alone}
@@ -43,7 +44,7 @@ module _ (s : Setup) where
   unfolding mayRead
   own {d} {p} {f} {m} {k} o exists alike =
       by-test (mayRead s p f)
-      (λ reads. inr (seen s d (record { process = o; file = record { exists = exists; right = rw (o .sits) at reads } }) alike)) inl
+      (λ reads. inr (alike .meets p f (record { process = o; file = record { exists = exists; right = rw (o .sits) at reads } }))) inl
 
   -- a refusal looks at no store
   answered : (n : Numbers) (m k : Store) → (numbersRefusal s n ≡ 0 → answerTo s m (callOf n) ≡ answerTo s k (callOf n)) →
@@ -66,8 +67,13 @@ module _ (s : Setup) where
             let o = of-desk s n e in
             by-refusal (λ r. Alike s u m (outcome s m n r .store)) (numbersRefusal s n)
             (λ ok.
-            alone s few (callOf n) (o .exists) (λ same. may-not (inl (sym (o .sits) ∙ same)))
-            (λ q reader. eq-false-of-not-eq-true (λ writes. may-not (inr (link o reader writes)))) m)
+            alone s few (callOf n) (o .exists)
+            (λ q reader.
+            record {
+              desk = λ same. may-not (inl (sym (o .sits) ∙ same));
+              no-W = eq-false-of-not-eq-true (λ writes. may-not (inr (link o reader writes)));
+            })
+            m)
             (λ r. equivalence s u .reflexive m);
         stays-alike =
             λ n d e u m k alike to-own.

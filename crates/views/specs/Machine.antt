@@ -2,10 +2,10 @@
 use mathlib.Core.Path.{_≡_}
 use mathlib.Core.Bool.{true}
 use Rattle.secrecy.specs.Machine.{Machine}
-use Rattle.secrecy.specs.Views.{Links}
-use Rattle.rules.specs.Calls.{Numbers}
+use Rattle.secrecy.specs.Views.{Policy}
 use Rattle.rules.specs.Entries.{ran}
 use Rattle.rules.specs.Links.{deskOfCall, linked}
+use Rattle.rules.specs.declared.Numbers.{Numbers}
 use Rattle.rules.specs.declared.Setup.{Setup}
 use Rattle.rules.specs.declared.Store.{Store}
 use Rattle.rules.specs.declared.Answer.{Answer}
@@ -22,5 +22,5 @@ machine s =
       answer = λ m n. ran s m n .answer;
     }
 
-abbrev pub linkedTo : Setup → Links
+abbrev pub linkedTo : Setup → Policy
 linkedTo s d e = linked s d e ≡ true

@@ -54,10 +54,10 @@ past-codes p f x (suc (suc (suc (suc (suc (suc (suc (suc (suc n))))))))) h2 h3 h
 returns-8 : tie.Need-returns-8
 unfolding callOf
 returns-8 c =
-    let a = c .before .args in
+    let n = c .before .args .n in
     let r = c .match .rest in
     rw sub-one
-    (past-codes (a .p) (a .f) (a .x) (a .op) (r .0 .0 .0 .0 .0 .0 .1) (r .0 .0 .0 .0 .0 .1) (r .0 .0 .0 .0 .1) (r .0 .0 .0 .1) (r .0 .0 .1) (r .0 .1) (r .1))
+    (past-codes (n .process) (n .file) (n .extra) (n .operation) (r .0 .0 .0 .0 .0 .0 .1) (r .0 .0 .0 .0 .0 .1) (r .0 .0 .0 .0 .1) (r .0 .0 .0 .1) (r .0 .0 .1) (r .0 .1) (r .1))
 
 pub call-of-spec : {M : Type 1} → statement M
 call-of-spec =

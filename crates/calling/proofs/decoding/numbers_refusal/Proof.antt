@@ -1,13 +1,14 @@
 -- `calling::decoding::numbers_refusal` meets its contract: the tests that led to each return settle the order.
 -- Assumes nothing.
-use Prim.Native.Nat.{ℕ, _<_, _≤_}
+use Prim.Native.Nat.{_<_, _≤_}
 use mathlib.Core.Path.{_≡_}
 use mathlib.Core.Bool.{_&&_}
 use mathlib.Core.List.{[], _∷_}
 use lib.Dec.{leb, eqb}
 use borrow.Author.Tests.{lt-ltb, le-ltb, lt-leb, le-leb, eq-eqb, ne-eqb}
-use Rattle.rules.specs.Calls.{numbers, firstCode, lastCode, codeOfCopy}
+use Rattle.rules.specs.Calls.{firstCode, lastCode, codeOfCopy}
 use Rattle.rules.specs.Refusals.{_gives_, firstOf, refusal8, refusal9, numbersRefusal}
+use Rattle.rules.specs.declared.Numbers.{Numbers}
 use Rattle.rules.specs.declared.Setup.{Setup}
 use Rattle.calling.proofs.decoding.numbers_refusal.Statement.{statement}
 use Rattle.calling.proofs.decoding.numbers_refusal.Tie as tie
@@ -35,18 +36,16 @@ returns-4 c =
     )
 
 -- what is left to judge where the operation, the process and the file are there
-abbrev LeftToJudge : Setup → ℕ → ℕ → ℕ → ℕ → Type 0
-LeftToJudge s op p f x =
-    let n = numbers op p f x in
-    numbersRefusal s n ≡ firstOf ((eqb op codeOfCopy && leb (s .files) x gives 7) ∷ refusal8 n ∷ refusal9 n ∷ [])
+abbrev LeftToJudge : Setup → Numbers → Type 0
+LeftToJudge s n = numbersRefusal s n ≡ firstOf ((eqb (n .operation) codeOfCopy && leb (s .files) (n .extra) gives 7) ∷ refusal8 n ∷ refusal9 n ∷ [])
 
-left-to-judge : (s : Setup) (op p f x : ℕ) → firstCode ≤ op → op ≤ lastCode → p < s .processes → f < s .files → LeftToJudge s op p f x
+left-to-judge : (s : Setup) (n : Numbers) → firstCode ≤ n .operation → n .operation ≤ lastCode → n .process < s .processes → n .file < s .files → LeftToJudge s n
 unfolding numbersRefusal
-left-to-judge s op p f x h₁ h₂ h₃ h₄ = simp (le-ltb _ _ h₁, le-ltb _ _ h₂, lt-leb _ _ h₃, lt-leb _ _ h₄)
+left-to-judge s n h₁ h₂ h₃ h₄ = simp (le-ltb _ _ h₁, le-ltb _ _ h₂, lt-leb _ _ h₃, lt-leb _ _ h₄)
 
-at-if5 : (c : tie.Else4) → (let a = c .before .before .before .before .before .before .args in LeftToJudge (a .setup) (a .op) (a .p) (a .f) (a .x))
+at-if5 : (c : tie.Else4) → (let a = c .before .before .before .before .before .before .args in LeftToJudge (a .setup) (a .n))
 at-if5 c =
-    left-to-judge _ _ _ _ _
+    left-to-judge _ _
     (c .before .before .before .before .before .if1 .left)
     (c .before .before .before .before .if2 .left)
     (c .before .before .if3 .left)

@@ -10,7 +10,7 @@ use Rattle.rules.specs.declared.Called.{Called}
 use Rattle.rules.specs.declared.Decoded.{Decoded}
 use Rattle.rules.specs.declared.Decoded.the-variants.{Is, Not}
 use Rattle.rules.proofs.Refusals.{judgeRefusal-iff}
-use Rattle.rules.proofs.Numbers.{decoded-in-range, ran-is, ran-not, called-unjudged}
+use Rattle.rules.proofs.Decodes.{decoded-in-range, ran-is, ran-not, called-unjudged}
 use Rattle.rules.proofs.Entries.{called-judged}
 use Rattle.calling.proofs.entry.call.Statement.{statement}
 use Rattle.calling.proofs.entry.call.Tie as tie
@@ -41,7 +41,7 @@ judged : (c : tie.Else1) → judgeRefusal (c .before .before .args .setup) (c .b
 judged c = sym (c .before .judge .ensures) ∙ c .if1 .left
 
 abbrev Numbered : tie.After-decode → Decoded → Type 0
-Numbered c d = let a = c .before .before .before .args in decoded (a .setup) (numbers (a .op) (a .p) (a .f) (a .x)) ≡ d
+Numbered c d = let a = c .before .before .before .args in decoded (a .setup) (a .n) ≡ d
 
 found : (c : tie.After-decoded2) → Numbered (c .before .before) (Is (c .decoded2 .given .0 .0))
 found c = sym (c .before .before .decode .ensures) ∙ c .decoded2 .given .1

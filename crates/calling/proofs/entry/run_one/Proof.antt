@@ -1,15 +1,40 @@
--- `calling::entry::run_one` meets its contract: a turn on the two sheets, and the one sheet put back.
+-- `calling::entry::run_one` meets its contract: a turn on what the call looks at, and what it leaves put back.
 -- Assumes nothing.
 use Prim.Native.Nat.{_<_}
-use mathlib.Core.Path.{_≡_}
 use native.Mathlib.Omega.{arith}
 use borrow.Author.Needs.{needs}
 use Rattle.rules.specs.Sizes.{mostProcesses, mostFiles}
-use Rattle.rules.specs.Setups.{mayRead, mayWrite}
-use Rattle.rules.specs.Calls.{looksAt, turnOf}
-use Rattle.rules.proofs.Turns.{turn-answer, turn-put}
+use Rattle.calling.proofs.Turns.{turned}
 use Rattle.calling.proofs.entry.run_one.Statement.{statement}
 use Rattle.calling.proofs.entry.run_one.Tie as tie
+
+-- The places, each from a later one: the start, what the call names, what its process meets of the two files, the look, the step
+abbrev start : tie.After-changeable → tie.Start
+start c = c .before .before .before
+
+abbrev at-process : tie.After-changeable → tie.After-process-of
+at-process c = c .before .before
+
+abbrev at-file : tie.After-changeable → tie.After-file-of
+at-file c = c .before
+
+abbrev at-named : tie.After-meeting-of → tie.After-changeable
+at-named c = c .before .before .before .before
+
+abbrev at-from : tie.After-meeting-of2 → tie.After-meeting-of
+at-from c = c .before .before .before .before
+
+abbrev at-onto : tie.After-look-on → tie.After-meeting-of2
+at-onto c = c .before .before .before .before .before .before .before .before
+
+abbrev at-look : tie.After-step → tie.After-look-on
+at-look c = c .before
+
+abbrev at-step : tie.After-content → tie.After-step
+at-step c = c .before .before
+
+abbrev named : tie.After-step → tie.After-changeable
+named c = at-named (at-from (at-onto (at-look c)))
 
 process-of-requires : tie.Need-process-of-requires
 process-of-requires c κs = search needs
@@ -41,88 +66,76 @@ mul-at-x c = search needs
 add-at-x : tie.Need-add-at-x
 add-at-x c = search needs
 
-mul-sheet-of : tie.Need-mul-sheet-of
-mul-sheet-of c = search needs
+mul-meeting-of : tie.Need-mul-meeting-of
+mul-meeting-of c = search needs
 
-element-copy-out-sheet-of : tie.Need-element-copy-out-sheet-of
-element-copy-out-sheet-of c = search needs
+element-copy-out-meeting-of : tie.Need-element-copy-out-meeting-of
+element-copy-out-meeting-of c = search needs
 
-mul-sheet-of-2 : tie.Need-mul-sheet-of-2
-mul-sheet-of-2 c = search needs
+mul-meeting-of-2 : tie.Need-mul-meeting-of-2
+mul-meeting-of-2 c = search needs
 
-element-copy-out-sheet-of-2 : tie.Need-element-copy-out-sheet-of-2
-element-copy-out-sheet-of-2 c = search needs
+element-copy-out-meeting-of-2 : tie.Need-element-copy-out-meeting-of-2
+element-copy-out-meeting-of-2 c = search needs
 
-element-copy-out-sheet-of-3 : tie.Need-element-copy-out-sheet-of-3
-element-copy-out-sheet-of-3 c = search needs
+element-copy-out-meeting-of-3 : tie.Need-element-copy-out-meeting-of-3
+element-copy-out-meeting-of-3 c = search needs
 
-sheet-of-requires : tie.Need-sheet-of-requires
-sheet-of-requires c κs = search needs
+meeting-of-requires : tie.Need-meeting-of-requires
+meeting-of-requires c κs = search needs
 
-mul-sheet-of-3 : tie.Need-mul-sheet-of-3
-mul-sheet-of-3 c = search needs
+mul-meeting-of-3 : tie.Need-mul-meeting-of-3
+mul-meeting-of-3 c = search needs
 
-element-copy-out-sheet-of-4 : tie.Need-element-copy-out-sheet-of-4
-element-copy-out-sheet-of-4 c = search needs
+element-copy-out-meeting-of-4 : tie.Need-element-copy-out-meeting-of-4
+element-copy-out-meeting-of-4 c = search needs
 
-mul-sheet-of-4 : tie.Need-mul-sheet-of-4
-mul-sheet-of-4 c = search needs
+mul-meeting-of-4 : tie.Need-mul-meeting-of-4
+mul-meeting-of-4 c = search needs
 
-element-copy-out-sheet-of-5 : tie.Need-element-copy-out-sheet-of-5
-element-copy-out-sheet-of-5 c = search needs
+element-copy-out-meeting-of-5 : tie.Need-element-copy-out-meeting-of-5
+element-copy-out-meeting-of-5 c = search needs
 
-element-copy-out-sheet-of-6 : tie.Need-element-copy-out-sheet-of-6
-element-copy-out-sheet-of-6 c = search needs
+element-copy-out-meeting-of-6 : tie.Need-element-copy-out-meeting-of-6
+element-copy-out-meeting-of-6 c = search needs
 
-sheet-of-requires-2 : tie.Need-sheet-of-requires-2
-sheet-of-requires-2 c κs = search needs
+meeting-of-requires-2 : tie.Need-meeting-of-requires-2
+meeting-of-requires-2 c κs = search needs
 
 look-on-requires : tie.Need-look-on-requires
 look-on-requires c κs = search needs
 
 step-requires : tie.Need-step-requires
-step-requires c κs = c .before .before .before .before .before .before .before .before .before .before .before .before .before .before .before .before .before .before .before .pre .0
+step-requires c κs = start (at-named (at-from (at-onto c))) .pre .0
 
 -- the process, and the file that the call can change, exist among the most of their kinds
-inside : (c : tie.After-content) → (c .before .before .before .before .before .before .before .before .before .before .before .before .before .before .before .before .before .before .before .before .before .process-of .result < mostProcesses) × (c .before .before .before .before .before .before .before .before .before .before .before .before .before .before .before .before .before .before .before .changeable .result < mostFiles)
+inside : (c : tie.After-changeable) → (at-process c .process-of .result < mostProcesses) × (c .changeable .result < mostFiles)
 inside c =
-    let p = c .before .before .before .before .before .before .before .before .before .before .before .before .before .before .before .before .before .before .before .before .before .process-of .ensures in
-    let x = c .before .before .before .before .before .before .before .before .before .before .before .before .before .before .before .before .before .before .before .changeable .ensures in
-    let r = c .before .before .before .before .before .before .before .before .before .before .before .before .before .before .before .before .before .before .before .before .before .before .pre in
-    (omega arith, omega arith)
+    let r = start c .pre in
+    (omega (arith, at-process c .process-of .ensures), omega (arith, c .changeable .ensures))
 
 mul-next : tie.Need-mul-next
-mul-next c = let i = inside c in omega arith
+mul-next c = let i = inside (named (at-step c)) in omega arith
 
 element-write-next : tie.Need-element-write-next
-element-write-next c = let i = inside c in omega arith
+element-write-next c = let i = inside (named (at-step c)) in omega arith
 
 mul-content : tie.Need-mul-content
-mul-content c = let i = inside c in omega arith
+mul-content c = let i = inside (named (at-step c)) in omega arith
 
 element-set-from-content : tie.Need-element-set-from-content
-element-set-from-content c = let i = inside c in omega arith
+element-set-from-content c = let i = inside (named (at-step c)) in omega arith
 
 element-write-next-2 : tie.Need-element-write-next-2
-element-write-next-2 c = let i = inside c in omega arith
-
--- the turn is that of the call on what it looks at in the store
-turned : (c : tie.After-step) → let a = c .before .before .before .before .before .before .before .before .before .before .before .before .before .before .before .before .before .before .before .before .args in c .step .result ≡ turnOf (a .call) (looksAt (a .t1) (a .store) (a .call))
-unfolding mayRead mayWrite
-turned c =
-    rw (
-      c .step .ensures,
-      c .before .look-on .ensures,
-      c .before .before .before .before .before .before .before .before .before .before .before .before .before .sheet-of .ensures,
-      c .before .before .before .before .before .before .before .before .before .sheet-of2 .ensures,
-      c .before .before .before .before .before .before .before .before .before .before .before .before .before .before .before .before .before .before .before .process-of .ensures,
-      c .before .before .before .before .before .before .before .before .before .before .before .before .before .before .before .before .before .before .file-of .ensures,
-      c .before .before .before .before .before .before .before .before .before .before .before .before .before .before .before .before .before .changeable .ensures,
-    )
+element-write-next-2 c = let i = inside (named (at-step c)) in omega arith
 
 returns : tie.Need-returns
 returns c =
-    rw (turned (c .before .before), c .before .before .before .before .before .before .before .before .before .before .before .before .before .before .before .before .before .before .before .changeable .ensures, c .before .before .before .before .before .before .before .before .before .before .before .before .before .before .before .before .before .before .before .before .before .process-of .ensures) (simp (turn-answer, turn-put))
+    let step = at-step c in
+    let at = named step in
+    let onto = at-onto (at-look step) in
+    turned _ _ _ (at-process at .process-of .ensures) (at-file at .file-of .ensures) (at .changeable .ensures)
+    (at-from onto .meeting-of .ensures) (onto .meeting-of2 .ensures) (at-look step .look-on .ensures) (step .step .ensures)
 
 pub run-one-spec : {M : Type 1} → statement M
 run-one-spec =
@@ -138,18 +151,18 @@ run-one-spec =
     add-at-f
     mul-at-x
     add-at-x
-    mul-sheet-of
-    element-copy-out-sheet-of
-    mul-sheet-of-2
-    element-copy-out-sheet-of-2
-    element-copy-out-sheet-of-3
-    sheet-of-requires
-    mul-sheet-of-3
-    element-copy-out-sheet-of-4
-    mul-sheet-of-4
-    element-copy-out-sheet-of-5
-    element-copy-out-sheet-of-6
-    sheet-of-requires-2
+    mul-meeting-of
+    element-copy-out-meeting-of
+    mul-meeting-of-2
+    element-copy-out-meeting-of-2
+    element-copy-out-meeting-of-3
+    meeting-of-requires
+    mul-meeting-of-3
+    element-copy-out-meeting-of-4
+    mul-meeting-of-4
+    element-copy-out-meeting-of-5
+    element-copy-out-meeting-of-6
+    meeting-of-requires-2
     look-on-requires
     step-requires
     mul-next

@@ -3,9 +3,9 @@
 use borrow.Author.Needs.{needs}
 use mathlib.Core.Path.{_≡_, sym, _∙_}
 use mathlib.Core.Bool.{_&&_}
-use Rattle.rules.specs.Calls.{goes}
 use Rattle.rules.specs.declared.Call.the-variants.{Lock}
-use Rattle.rules.proofs.Turns.{turn-goes, turn-stays}
+use Rattle.calling.specs.Turns.{goes}
+use Rattle.calling.proofs.Turns.{turn-goes, turn-stays}
 use Rattle.calling.proofs.stepping.lock.Statement.{statement}
 use Rattle.calling.proofs.stepping.lock.Tie as tie
 

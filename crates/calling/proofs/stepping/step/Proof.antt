@@ -4,7 +4,7 @@ use Prim.Native.Nat.{_<_}
 use mathlib.Core.Path.{subst}
 use borrow.Author.Needs.{needs}
 use Rattle.rules.specs.Sizes.{mostProcesses}
-use Rattle.rules.specs.Calls.{processOf}
+use Rattle.rules.specs.Parts.{processOf}
 use Rattle.rules.specs.declared.Call.{Call}
 use Rattle.calling.proofs.stepping.step.Statement.{statement}
 use Rattle.calling.proofs.stepping.step.Tie as tie

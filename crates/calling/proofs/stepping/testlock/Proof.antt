@@ -2,7 +2,7 @@
 -- Assumes nothing.
 use borrow.Author.Needs.{needs}
 use Rattle.rules.specs.declared.Call.the-variants.{Testlock}
-use Rattle.rules.proofs.Turns.{turn-goes, turn-stays}
+use Rattle.calling.proofs.Turns.{turn-goes, turn-stays}
 use Rattle.calling.proofs.stepping.testlock.Statement.{statement}
 use Rattle.calling.proofs.stepping.testlock.Tie as tie
 

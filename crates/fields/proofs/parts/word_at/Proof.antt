@@ -3,21 +3,21 @@
 use Prim.Native.Nat.{_+_, _-_, _≤_}
 use native.Mathlib.Omega.{arith}
 use lib.ListN.{length, take}
-use Rattle.fields.proofs.Scanned.{Scanned, scanned-none, word-short, word-differs, word-unmarked, word-there, word-more}
+use Rattle.fields.proofs.Scanned.{Scanned, scanned-none, word-short, word-differs, word-runs-on, word-there, word-more}
 use Rattle.fields.proofs.parts.word_at.Statement.{statement}
 use Rattle.fields.proofs.parts.word_at.Tie as tie
 
 abbrev Inv-loop : tie.InvT-loop
-Inv-loop text at word mark i₀ i = (i ≤ length word) × Scanned text at (at + i) (take i word)
+Inv-loop text at word stop i₀ i = (i ≤ length word) × Scanned text at (at + i) (take i word)
 
 abbrev μ-loop : tie.MeasureT-loop
-μ-loop text at word mark i₀ i = length word - i
+μ-loop text at word stop i₀ i = length word - i
 
 sub-if1 : tie.Need-sub-if1 Inv-loop μ-loop
 sub-if1 c = omega arith
 
 returns : tie.Need-returns Inv-loop μ-loop
-returns c = let a = c .before .args in word-short (a .word .now) (a .mark) (a .text .now) (a .at) (omega arith) (omega arith)
+returns c = let a = c .before .args in word-short (a .word .now) (a .stop) (a .text .now) (a .at) (omega arith) (omega arith)
 
 loop-holds : tie.Need-loop-holds Inv-loop μ-loop
 loop-holds c = (omega arith, scanned-none _ _ _ (omega arith))
@@ -50,7 +50,7 @@ shared-slice-read-if3 : tie.Need-shared-slice-read-if3 Inv-loop μ-loop
 shared-slice-read-if3 c = omega arith
 
 returns-3 : tie.Need-returns-3 Inv-loop μ-loop
-returns-3 c = word-unmarked _ _ _ _ (c .before .before .before .loop .i) (omega arith) (c .if3 .taken)
+returns-3 c = word-runs-on _ _ _ _ (c .before .before .before .loop .i) (omega arith) (c .if3 .taken)
 
 add-result : tie.Need-add-result Inv-loop μ-loop
 add-result c = omega arith

@@ -5,7 +5,7 @@ use mathlib.Core.List.{List, [], _∷_}
 use mathlib.Core.Path.{refl}
 use borrow.Author.Needs.{needs}
 use Rattle.lines.specs.Shapes.{Shape, aNumber, oneOf, Access, rightWords, accessShape, accessFrom, accessLine}
-use Rattle.fields.proofs.Composed.{Begun, begun-made, begun-more, begun-stops, begun-ends}
+use Rattle.fields.proofs.Composed.{Begun, begun-made, begun-more, begun-lacks, begun-ends}
 use Rattle.fields.proofs.shapes.access_at.Statement.{statement}
 use Rattle.fields.proofs.shapes.access_at.Tie as tie
 
@@ -20,16 +20,16 @@ word : (c : tie.Else1) → Here (c .before .before .before .before) (aNumber ∷
 word c = begun-more (start (c .before .before .before .before)) _ (c .before .word-at .ensures) (c .if1 .left)
 
 desk : (c : tie.Else2)
-    → let d = c .before .before .number-at .result in
+    → let d = c .before .before .decimal-at .result in
     Here (c .before .before .before .before .before .before .before) (aNumber ∷ oneOf rightWords ∷ []) (d .next) (λ ns. accessFrom (d .value ∷ ns))
-desk c = begun-more (word (c .before .before .before)) _ (c .before .before .number-at .ensures) (c .if2 .left)
+desk c = begun-more (word (c .before .before .before)) _ (c .before .before .decimal-at .ensures) (c .if2 .left)
 
 class : (c : tie.Else3)
-    → let d = c .before .before .before .before .before .number-at .result in
-    let t = c .before .before .number-at2 .result in
+    → let d = c .before .before .before .before .before .decimal-at .result in
+    let t = c .before .before .decimal-at2 .result in
     Here (c .before .before .before .before .before .before .before .before .before .before) (oneOf rightWords ∷ []) (t .next)
     (λ ns. accessFrom (d .value ∷ t .value ∷ ns))
-class c = begun-more (desk (c .before .before .before)) _ (c .before .before .number-at2 .ensures) (c .if3 .left)
+class c = begun-more (desk (c .before .before .before)) _ (c .before .before .decimal-at2 .ensures) (c .if3 .left)
 
 slice-aggregate-word-at : tie.Need-slice-aggregate-word-at
 slice-aggregate-word-at c = search needs
@@ -42,27 +42,27 @@ no-access-requires c κs = search needs
 
 returns : tie.Need-returns
 returns c =
-    begun-stops (start (c .before .before .before .before .before)) _ _ (c .before .before .word-at .ensures) (c .before .if1 .taken) (c .no-access .ensures)
+    begun-lacks (start (c .before .before .before .before .before)) _ _ (c .before .before .word-at .ensures) (c .before .if1 .taken) (c .no-access .ensures)
 
-number-at-requires : tie.Need-number-at-requires
-number-at-requires c κs = (word c .within, refl)
+decimal-at-requires : tie.Need-decimal-at-requires
+decimal-at-requires c κs = (word c .within, refl)
 
 no-access-requires-2 : tie.Need-no-access-requires-2
 no-access-requires-2 c κs = search needs
 
 returns-2 : tie.Need-returns-2
 returns-2 c =
-    begun-stops (word (c .before .before .before .before)) _ _ (c .before .before .before .number-at .ensures) (c .before .if2 .taken) (c .no-access2 .ensures)
+    begun-lacks (word (c .before .before .before .before)) _ _ (c .before .before .before .decimal-at .ensures) (c .before .if2 .taken) (c .no-access2 .ensures)
 
-number-at-requires-2 : tie.Need-number-at-requires-2
-number-at-requires-2 c κs = (desk c .within, refl)
+decimal-at-requires-2 : tie.Need-decimal-at-requires-2
+decimal-at-requires-2 c κs = (desk c .within, refl)
 
 no-access-requires-3 : tie.Need-no-access-requires-3
 no-access-requires-3 c κs = search needs
 
 returns-3 : tie.Need-returns-3
 returns-3 c =
-    begun-stops (desk (c .before .before .before .before)) _ _ (c .before .before .before .number-at2 .ensures) (c .before .if3 .taken) (c .no-access3 .ensures)
+    begun-lacks (desk (c .before .before .before .before)) _ _ (c .before .before .before .decimal-at2 .ensures) (c .before .if3 .taken) (c .no-access3 .ensures)
 
 right-at-requires : tie.Need-right-at-requires
 right-at-requires c κs = class c .within
@@ -78,10 +78,10 @@ access-at-spec =
     word-at-requires
     no-access-requires
     returns
-    number-at-requires
+    decimal-at-requires
     no-access-requires-2
     returns-2
-    number-at-requires-2
+    decimal-at-requires-2
     no-access-requires-3
     returns-3
     right-at-requires

@@ -5,7 +5,7 @@ use mathlib.Core.Path.{refl}
 use borrow.Author.Needs.{needs}
 use Rattle.lines.specs.Bytes.{one}
 use Rattle.lines.specs.Shapes.{theWord, callsShape, callsLine}
-use Rattle.fields.proofs.Composed.{Begun, begun, begun-more, begun-stops, begun-ends}
+use Rattle.fields.proofs.Composed.{Begun, begun, begun-more, begun-lacks, begun-ends}
 use Rattle.fields.proofs.shapes.calls_at.Statement.{statement}
 use Rattle.fields.proofs.shapes.calls_at.Tie as tie
 
@@ -25,7 +25,7 @@ word-at-requires : tie.Need-word-at-requires
 word-at-requires c κs = search needs
 
 returns : tie.Need-returns
-returns c = begun-stops (start (c .before .before .before .before)) _ [] (c .before .word-at .ensures) (c .if1 .taken) refl
+returns c = begun-lacks (start (c .before .before .before .before)) _ [] (c .before .word-at .ensures) (c .if1 .taken) refl
 
 slice-aggregate-word-at-2 : tie.Need-slice-aggregate-word-at-2
 slice-aggregate-word-at-2 c = search needs

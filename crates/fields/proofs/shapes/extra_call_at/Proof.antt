@@ -6,7 +6,7 @@ use mathlib.Core.List.{List, [], _∷_}
 use mathlib.Core.Path.{refl}
 use borrow.Author.Needs.{needs}
 use Rattle.lines.specs.Shapes.{Shape, aNumber, readAs, extraShape}
-use Rattle.fields.proofs.Composed.{Begun, begun, begun-more, begun-stops}
+use Rattle.fields.proofs.Composed.{Begun, begun, begun-more, begun-lacks}
 use Rattle.fields.proofs.shapes.extra_call_at.Statement.{statement}
 use Rattle.fields.proofs.shapes.extra_call_at.Tie as tie
 
@@ -23,31 +23,31 @@ word c = begun-more (start (c .before .before .before .before)) _ (c .before .be
 
 process : (c : tie.Else2)
     → let op = c .before .before .before .before .before .extra-word-at .result in
-    let p = c .before .before .number-at .result in
+    let p = c .before .before .decimal-at .result in
     Here (c .before .before .before .before .before .before .before) (aNumber ∷ aNumber ∷ []) (p .next) (λ ns. op .value ∷ p .value ∷ ns)
-process c = begun-more (word (c .before .before .before)) _ (c .before .before .number-at .ensures) (c .if2 .left)
+process c = begun-more (word (c .before .before .before)) _ (c .before .before .decimal-at .ensures) (c .if2 .left)
 
 extra-word-at-requires : tie.Need-extra-word-at-requires
 extra-word-at-requires c κs = search needs
 
-no-quad-requires : tie.Need-no-quad-requires
-no-quad-requires c κs = search needs
+no-call-requires : tie.Need-no-call-requires
+no-call-requires c κs = search needs
 
 returns : tie.Need-returns
 returns c =
-    begun-stops (start (c .before .before .before .before .before)) _ _ (c .before .before .before .extra-word-at .ensures) (c .before .if1 .taken)
-    (c .no-quad .ensures .0)
+    begun-lacks (start (c .before .before .before .before .before)) _ _ (c .before .before .before .extra-word-at .ensures) (c .before .if1 .taken)
+    (c .no-call .ensures .0)
 
-number-at-requires : tie.Need-number-at-requires
-number-at-requires c κs = (word c .within, refl)
+decimal-at-requires : tie.Need-decimal-at-requires
+decimal-at-requires c κs = (word c .within, refl)
 
-no-quad-requires-2 : tie.Need-no-quad-requires-2
-no-quad-requires-2 c κs = search needs
+no-call-requires-2 : tie.Need-no-call-requires-2
+no-call-requires-2 c κs = search needs
 
 returns-2 : tie.Need-returns-2
 returns-2 c =
-    begun-stops (word (c .before .before .before .before)) _ _ (c .before .before .before .number-at .ensures) (c .before .if2 .taken)
-    (c .no-quad2 .ensures .0)
+    begun-lacks (word (c .before .before .before .before)) _ _ (c .before .before .before .decimal-at .ensures) (c .before .if2 .taken)
+    (c .no-call2 .ensures .0)
 
 pair-at-requires : tie.Need-pair-at-requires
 pair-at-requires c κs = process c .within
@@ -60,10 +60,10 @@ extra-call-at-spec =
     tie.close
     (tie.spec
     extra-word-at-requires
-    no-quad-requires
+    no-call-requires
     returns
-    number-at-requires
-    no-quad-requires-2
+    decimal-at-requires
+    no-call-requires-2
     returns-2
     pair-at-requires
     returns-3)

@@ -7,7 +7,7 @@ use mathlib.Core.Path.{refl}
 use borrow.Author.Needs.{needs}
 use Rattle.lines.specs.Bytes.{one}
 use Rattle.lines.specs.Shapes.{Shape, theWord, aNumber, Header, headerShape, headerFrom, headerLine}
-use Rattle.fields.proofs.Composed.{Begun, begun-made, begun-more, begun-stops}
+use Rattle.fields.proofs.Composed.{Begun, begun-made, begun-more, begun-lacks}
 use Rattle.fields.proofs.shapes.header_at.Statement.{statement}
 use Rattle.fields.proofs.shapes.header_at.Tie as tie
 
@@ -27,17 +27,17 @@ words : (c : tie.Else2)
 words c = begun-more (store (c .before .before .before)) _ (c .before .word-at2 .ensures) (c .if2 .left)
 
 desks : (c : tie.Else3)
-    → let d = c .before .before .number-at .result in
+    → let d = c .before .before .decimal-at .result in
     Here (c .before .before .before .before .before .before .before .before .before .before) (aNumber ∷ aNumber ∷ aNumber ∷ []) (d .next)
     (λ ns. headerFrom (d .value ∷ ns))
-desks c = begun-more (words (c .before .before .before)) _ (c .before .before .number-at .ensures) (c .if3 .left)
+desks c = begun-more (words (c .before .before .before)) _ (c .before .before .decimal-at .ensures) (c .if3 .left)
 
 classes : (c : tie.Else4)
-    → let d = c .before .before .before .before .before .number-at .result in
-    let t = c .before .before .number-at2 .result in
+    → let d = c .before .before .before .before .before .decimal-at .result in
+    let t = c .before .before .decimal-at2 .result in
     Here (c .before .before .before .before .before .before .before .before .before .before .before .before .before) (aNumber ∷ aNumber ∷ [])
     (t .next) (λ ns. headerFrom (d .value ∷ t .value ∷ ns))
-classes c = begun-more (desks (c .before .before .before)) _ (c .before .before .number-at2 .ensures) (c .if4 .left)
+classes c = begun-more (desks (c .before .before .before)) _ (c .before .before .decimal-at2 .ensures) (c .if4 .left)
 
 slice-aggregate-word-at : tie.Need-slice-aggregate-word-at
 slice-aggregate-word-at c = search needs
@@ -50,7 +50,7 @@ no-counts-requires c κs = search needs
 
 returns : tie.Need-returns
 returns c =
-    begun-stops (start (c .before .before .before .before .before)) _ _ (c .before .before .word-at .ensures) (c .before .if1 .taken) (c .no-counts .ensures)
+    begun-lacks (start (c .before .before .before .before .before)) _ _ (c .before .before .word-at .ensures) (c .before .if1 .taken) (c .no-counts .ensures)
 
 slice-aggregate-word-at-2 : tie.Need-slice-aggregate-word-at-2
 slice-aggregate-word-at-2 c = search needs
@@ -63,27 +63,27 @@ no-counts-requires-2 c κs = search needs
 
 returns-2 : tie.Need-returns-2
 returns-2 c =
-    begun-stops (store (c .before .before .before .before)) _ _ (c .before .before .word-at2 .ensures) (c .before .if2 .taken) (c .no-counts2 .ensures)
+    begun-lacks (store (c .before .before .before .before)) _ _ (c .before .before .word-at2 .ensures) (c .before .if2 .taken) (c .no-counts2 .ensures)
 
-number-at-requires : tie.Need-number-at-requires
-number-at-requires c κs = (words c .within, refl)
+decimal-at-requires : tie.Need-decimal-at-requires
+decimal-at-requires c κs = (words c .within, refl)
 
 no-counts-requires-3 : tie.Need-no-counts-requires-3
 no-counts-requires-3 c κs = search needs
 
 returns-3 : tie.Need-returns-3
 returns-3 c =
-    begun-stops (words (c .before .before .before .before)) _ _ (c .before .before .before .number-at .ensures) (c .before .if3 .taken) (c .no-counts3 .ensures)
+    begun-lacks (words (c .before .before .before .before)) _ _ (c .before .before .before .decimal-at .ensures) (c .before .if3 .taken) (c .no-counts3 .ensures)
 
-number-at-requires-2 : tie.Need-number-at-requires-2
-number-at-requires-2 c κs = (desks c .within, refl)
+decimal-at-requires-2 : tie.Need-decimal-at-requires-2
+decimal-at-requires-2 c κs = (desks c .within, refl)
 
 no-counts-requires-4 : tie.Need-no-counts-requires-4
 no-counts-requires-4 c κs = search needs
 
 returns-4 : tie.Need-returns-4
 returns-4 c =
-    begun-stops (desks (c .before .before .before .before)) _ _ (c .before .before .before .number-at2 .ensures) (c .before .if4 .taken) (c .no-counts4 .ensures)
+    begun-lacks (desks (c .before .before .before .before)) _ _ (c .before .before .before .decimal-at2 .ensures) (c .before .if4 .taken) (c .no-counts4 .ensures)
 
 pair-at-requires : tie.Need-pair-at-requires
 pair-at-requires c κs = classes c .within
@@ -103,10 +103,10 @@ header-at-spec =
     word-at-requires-2
     no-counts-requires-2
     returns-2
-    number-at-requires
+    decimal-at-requires
     no-counts-requires-3
     returns-3
-    number-at-requires-2
+    decimal-at-requires-2
     no-counts-requires-4
     returns-4
     pair-at-requires

@@ -4,7 +4,7 @@ use mathlib.Core.List.{[], _∷_}
 use mathlib.Core.Path.{refl}
 use borrow.Author.Needs.{needs}
 use Rattle.lines.specs.Shapes.{aNumber, readAs}
-use Rattle.fields.proofs.Composed.{Begun, begun, begun-more, begun-stops, begun-ends}
+use Rattle.fields.proofs.Composed.{Begun, begun, begun-more, begun-lacks, begun-ends}
 use Rattle.fields.proofs.shapes.pair_at.Statement.{statement}
 use Rattle.fields.proofs.shapes.pair_at.Tie as tie
 
@@ -13,26 +13,27 @@ start s = begun (aNumber ∷ aNumber ∷ []) (s .args .text .now) (s .args .at) 
 
 first : (c : tie.Else1)
     → let a = c .before .before .before .before .args in
-    let n = c .before .before .number-at .result in
+    let n = c .before .before .decimal-at .result in
     Begun (readAs (aNumber ∷ aNumber ∷ [])) (a .text .now) (a .at) (aNumber ∷ []) (n .next) (λ ns. n .value ∷ ns)
-first c = begun-more (start (c .before .before .before .before)) _ (c .before .before .number-at .ensures) (c .if1 .left)
+first c = begun-more (start (c .before .before .before .before)) _ (c .before .before .decimal-at .ensures) (c .if1 .left)
 
-number-at-requires : tie.Need-number-at-requires
-number-at-requires c κs = search needs
+decimal-at-requires : tie.Need-decimal-at-requires
+decimal-at-requires c κs = search needs
 
 no-pair-requires : tie.Need-no-pair-requires
 no-pair-requires c κs = search needs
 
 returns : tie.Need-returns
 returns c =
-    begun-stops (start (c .before .before .before .before .before)) _ _ (c .before .before .before .number-at .ensures) (c .before .if1 .taken) (c .no-pair .ensures)
+    begun-lacks (start (c .before .before .before .before .before)) _ _ (c .before .before .before .decimal-at .ensures) (c .before .if1 .taken)
+    (c .no-pair .ensures)
 
-number-at-requires-2 : tie.Need-number-at-requires-2
-number-at-requires-2 c κs = (first c .within, refl)
+decimal-at-requires-2 : tie.Need-decimal-at-requires-2
+decimal-at-requires-2 c κs = (first c .within, refl)
 
 returns-2 : tie.Need-returns-2
-returns-2 c = begun-ends (first (c .before)) (c .number-at2 .result .next) _ (c .number-at2 .ensures)
+returns-2 c = begun-ends (first (c .before)) (c .decimal-at2 .result .next) _ (c .decimal-at2 .ensures)
 
 pub pair-at-spec : {M : Type 1} → statement M
 pair-at-spec =
-    tie.close (tie.spec number-at-requires no-pair-requires returns number-at-requires-2 returns-2)
+    tie.close (tie.spec decimal-at-requires no-pair-requires returns decimal-at-requires-2 returns-2)

@@ -4,7 +4,7 @@ use mathlib.Core.List.{[], _∷_}
 use mathlib.Core.Path.{refl}
 use borrow.Author.Needs.{needs}
 use Rattle.lines.specs.Shapes.{aNumber, readAs, plainShape}
-use Rattle.fields.proofs.Composed.{Begun, begun, begun-more, begun-stops}
+use Rattle.fields.proofs.Composed.{Begun, begun, begun-more, begun-lacks}
 use Rattle.fields.proofs.shapes.plain_call_at.Statement.{statement}
 use Rattle.fields.proofs.shapes.plain_call_at.Tie as tie
 
@@ -20,13 +20,13 @@ word c = begun-more (start (c .before .before .before .before)) _ (c .before .be
 plain-word-at-requires : tie.Need-plain-word-at-requires
 plain-word-at-requires c κs = search needs
 
-no-quad-requires : tie.Need-no-quad-requires
-no-quad-requires c κs = search needs
+no-call-requires : tie.Need-no-call-requires
+no-call-requires c κs = search needs
 
 returns : tie.Need-returns
 returns c =
-    let none = c .no-quad .ensures in (
-      begun-stops (start (c .before .before .before .before .before)) _ _ (c .before .before .before .plain-word-at .ensures) (c .before .if1 .taken) (none .0),
+    let none = c .no-call .ensures in (
+      begun-lacks (start (c .before .before .before .before .before)) _ _ (c .before .before .before .plain-word-at .ensures) (c .before .if1 .taken) (none .0),
       none .1,
     )
 
@@ -38,4 +38,4 @@ returns-2 c = (word (c .before) .goes (c .pair-at .result .next) _ (c .pair-at .
 
 pub plain-call-at-spec : {M : Type 1} → statement M
 plain-call-at-spec =
-    tie.close (tie.spec plain-word-at-requires no-quad-requires returns pair-at-requires returns-2)
+    tie.close (tie.spec plain-word-at-requires no-call-requires returns pair-at-requires returns-2)

@@ -5,15 +5,13 @@ use mathlib.Core.Path.{_≡_, sym, _∙_}
 use native.Mathlib.Omega.{arith}
 use borrow.Author.Needs.{needs}
 use Rattle.rules.specs.Sizes.{mostProcesses, mostFiles}
-use Rattle.rules.specs.Setups.{mayRead, mayWrite}
-use Rattle.rules.specs.Stores.{withSheet}
-use Rattle.rules.specs.Calls.{looksAt, turnOf, callsIn, numbersAt}
+use Rattle.rules.specs.Calls.{callsIn, numbersAt}
 use Rattle.rules.specs.Entries.{decoded, ran}
 use Rattle.rules.specs.declared.Decoded.{Decoded}
 use Rattle.rules.specs.declared.Decoded.the-variants.{Is, Not}
 use Rattle.rules.proofs.Codes.{InRange}
-use Rattle.rules.proofs.Numbers.{decoded-in-range, ran-is, ran-not}
-use Rattle.rules.proofs.Turns.{turn-answer, turn-put}
+use Rattle.rules.proofs.Decodes.{decoded-in-range, ran-is, ran-not}
+use Rattle.calling.proofs.Turns.{withMeeting, turned}
 use Rattle.lists.proofs.Runs.{Running, running-none, running-more, running-all}
 use Rattle.lists.proofs.running.run_all.Statement.{statement}
 use Rattle.lists.proofs.running.run_all.Tie as tie
@@ -23,6 +21,65 @@ Inv-loop calls answers₀ setup next₀ i₀ answers next i = Running setup next
 
 abbrev μ-loop : tie.MeasureT-loop
 μ-loop calls answers₀ setup next₀ i₀ answers next i = callsIn calls - i
+
+-- The places, each from a later one: the start, the loop and its test, what was decoded; in a refusal's arm the number and its answer;
+abbrev start : tie.At-loop Inv-loop μ-loop → tie.Start Inv-loop μ-loop
+start c = c .before .before .before
+
+abbrev at-test : tie.After-decode-at Inv-loop μ-loop → tie.In-loop Inv-loop μ-loop
+at-test c = c .before
+
+abbrev at-loop : tie.After-decode-at Inv-loop μ-loop → tie.At-loop Inv-loop μ-loop
+at-loop c = at-test c .before
+
+abbrev at-refused : tie.After-number Inv-loop μ-loop → tie.After-decode-at Inv-loop μ-loop
+at-refused c = c .before .before
+
+abbrev at-number : tie.After-put Inv-loop μ-loop → tie.After-number Inv-loop μ-loop
+at-number c = c .before .before .before
+
+abbrev at-put : tie.After-slice-known2 Inv-loop μ-loop → tie.After-put Inv-loop μ-loop
+at-put c = c .before .before
+
+-- in a call's arm the call, what it names, what its process meets of the two files, the look, the step, the last write and the answer
+abbrev at-decode : tie.After-call Inv-loop μ-loop → tie.After-decode-at Inv-loop μ-loop
+at-decode c = c .before .before
+
+abbrev at-call : tie.After-changeable Inv-loop μ-loop → tie.After-call Inv-loop μ-loop
+at-call c = c .before .before .before .before
+
+abbrev at-process : tie.After-changeable Inv-loop μ-loop → tie.After-process-of Inv-loop μ-loop
+at-process c = c .before .before
+
+abbrev at-file : tie.After-changeable Inv-loop μ-loop → tie.After-file-of Inv-loop μ-loop
+at-file c = c .before
+
+abbrev at-named : tie.After-meeting-of Inv-loop μ-loop → tie.After-changeable Inv-loop μ-loop
+at-named c = c .before .before .before .before
+
+abbrev at-from : tie.After-meeting-of2 Inv-loop μ-loop → tie.After-meeting-of Inv-loop μ-loop
+at-from c = c .before .before .before .before
+
+abbrev at-onto : tie.After-look-on Inv-loop μ-loop → tie.After-meeting-of2 Inv-loop μ-loop
+at-onto c = c .before .before .before .before .before .before .before .before
+
+abbrev at-look : tie.After-step Inv-loop μ-loop → tie.After-look-on Inv-loop μ-loop
+at-look c = c .before
+
+abbrev at-step : tie.After-content Inv-loop μ-loop → tie.After-step Inv-loop μ-loop
+at-step c = c .before .before
+
+abbrev at-write : tie.After-put2 Inv-loop μ-loop → tie.After-content Inv-loop μ-loop
+at-write c = c .before .before
+
+abbrev at-put2 : tie.After-slice-known3 Inv-loop μ-loop → tie.After-put2 Inv-loop μ-loop
+at-put2 c = c .before .before
+
+abbrev named : tie.After-step Inv-loop μ-loop → tie.After-changeable Inv-loop μ-loop
+named c = at-named (at-from (at-onto (at-look c)))
+
+abbrev decoded-of : tie.After-step Inv-loop μ-loop → tie.After-decode-at Inv-loop μ-loop
+decoded-of c = at-decode (at-call (named c))
 
 loop-holds : tie.Need-loop-holds Inv-loop μ-loop
 loop-holds c = running-none _ _ _ _ (c .before .before .pre .1)
@@ -44,28 +101,31 @@ loop-less c = omega arith
 
 -- the call that was decoded is that of the list, and its numbers are in range
 abbrev Listed : tie.After-decode-at Inv-loop μ-loop → Decoded → Type 0
-Listed c d = let a = c .before .before .before .before .before .args in decoded (a .t1) (numbersAt (a .calls .now) (c .before .before .loop .i)) ≡ d
+Listed c d = let a = start (at-loop c) .args in decoded (a .t1) (numbersAt (a .calls .now) (at-loop c .loop .i)) ≡ d
 
-found : (c : tie.After-call Inv-loop μ-loop) → Listed (c .before .before) (Is (c .call .given .0 .0))
-found c = sym (c .before .before .decode-at .ensures) ∙ c .call .given .1
+found : (c : tie.After-call Inv-loop μ-loop) → Listed (at-decode c) (Is (c .call .given .0 .0))
+found c = sym (at-decode c .decode-at .ensures) ∙ c .call .given .1
 
 in-range : (c : tie.After-call Inv-loop μ-loop) → InRange (c .call .given .0 .0)
-in-range c = decoded-in-range _ _ _ (c .before .before .before .before .before .before .before .pre .0) (found c)
+in-range c = decoded-in-range _ _ _ (start (at-loop (at-decode c)) .pre .0) (found c)
 
 -- so the process and the two files that the code looks up are in range
 ranges : (c : tie.After-changeable Inv-loop μ-loop) →
-    (c .before .before .process-of .result < mostProcesses) × (c .before .file-of .result < mostFiles) × (c .changeable .result < mostFiles)
+    (at-process c .process-of .result < mostProcesses) × (at-file c .file-of .result < mostFiles) × (c .changeable .result < mostFiles)
 ranges c =
-    let r = in-range (c .before .before .before .before) in (
-      rw (c .before .before .process-of .ensures) (r .process),
-      rw (c .before .file-of .ensures) (r .file),
+    let r = in-range (at-call c) in (
+      rw (at-process c .process-of .ensures) (r .process),
+      rw (at-file c .file-of .ensures) (r .file),
       rw (c .changeable .ensures) (r .changed),
     )
 
 loop-again : tie.Need-loop-again Inv-loop μ-loop
 loop-again c =
-    let d : Listed (c .before .before .before .before .before .before .before) (Not (c .before .before .before .before .before .number .given .0 .0)) = sym (c .before .before .before .before .before .before .before .decode-at .ensures) ∙ c .before .before .before .before .before .number .given .1 in
-    rw (c .before .before .put .ensures) (running-more _ _ _ _ _ _ _ (c .before .before .before .before .before .before .before .before .before .loop .inv) (c .before .before .before .before .before .before .before .before .loop-test .taken) _ _ (ran-not _ _ _ _ d))
+    let put = at-put c in
+    let arm = at-number put in
+    let at = at-refused arm in
+    let d : Listed at (Not (arm .number .given .0 .0)) = sym (at .decode-at .ensures) ∙ arm .number .given .1 in
+    rw (put .put .ensures) (running-more _ _ _ _ _ _ _ (at-loop at .loop .inv) (at-test at .loop-test .taken) _ _ (ran-not _ _ _ _ d))
 
 enum-known-call : tie.Need-enum-known-call Inv-loop μ-loop
 enum-known-call c = search needs
@@ -89,114 +149,104 @@ cast-x : tie.Need-cast-x Inv-loop μ-loop
 cast-x c = search needs
 
 mul-at-f : tie.Need-mul-at-f Inv-loop μ-loop
-mul-at-f c = let h = ranges (c) in omega arith
+mul-at-f c = let h = ranges c in omega arith
 
 add-at-f : tie.Need-add-at-f Inv-loop μ-loop
-add-at-f c = let h = ranges (c) in omega arith
+add-at-f c = let h = ranges c in omega arith
 
 mul-at-x : tie.Need-mul-at-x Inv-loop μ-loop
-mul-at-x c = let h = ranges (c) in omega arith
+mul-at-x c = let h = ranges c in omega arith
 
 add-at-x : tie.Need-add-at-x Inv-loop μ-loop
-add-at-x c = let h = ranges (c) in omega arith
+add-at-x c = let h = ranges c in omega arith
 
-mul-sheet-of : tie.Need-mul-sheet-of Inv-loop μ-loop
-mul-sheet-of c = let h = ranges (c) in omega arith
+mul-meeting-of : tie.Need-mul-meeting-of Inv-loop μ-loop
+mul-meeting-of c = let h = ranges c in omega arith
 
-element-copy-out-sheet-of : tie.Need-element-copy-out-sheet-of Inv-loop μ-loop
-element-copy-out-sheet-of c = let h = ranges (c) in omega arith
+element-copy-out-meeting-of : tie.Need-element-copy-out-meeting-of Inv-loop μ-loop
+element-copy-out-meeting-of c = let h = ranges c in omega arith
 
-mul-sheet-of-2 : tie.Need-mul-sheet-of-2 Inv-loop μ-loop
-mul-sheet-of-2 c = let h = ranges (c .before) in omega arith
+mul-meeting-of-2 : tie.Need-mul-meeting-of-2 Inv-loop μ-loop
+mul-meeting-of-2 c = let h = ranges (c .before) in omega arith
 
-element-copy-out-sheet-of-2 : tie.Need-element-copy-out-sheet-of-2 Inv-loop μ-loop
-element-copy-out-sheet-of-2 c = let h = ranges (c .before) in omega arith
+element-copy-out-meeting-of-2 : tie.Need-element-copy-out-meeting-of-2 Inv-loop μ-loop
+element-copy-out-meeting-of-2 c = let h = ranges (c .before) in omega arith
 
-element-copy-out-sheet-of-3 : tie.Need-element-copy-out-sheet-of-3 Inv-loop μ-loop
-element-copy-out-sheet-of-3 c = let h = ranges (c .before .before) in omega arith
+element-copy-out-meeting-of-3 : tie.Need-element-copy-out-meeting-of-3 Inv-loop μ-loop
+element-copy-out-meeting-of-3 c = let h = ranges (c .before .before) in omega arith
 
-sheet-of-requires : tie.Need-sheet-of-requires Inv-loop μ-loop
-sheet-of-requires c κs = search needs
+meeting-of-requires : tie.Need-meeting-of-requires Inv-loop μ-loop
+meeting-of-requires c κs = search needs
 
-mul-sheet-of-3 : tie.Need-mul-sheet-of-3 Inv-loop μ-loop
-mul-sheet-of-3 c = let h = ranges (c .before .before .before .before) in omega arith
+mul-meeting-of-3 : tie.Need-mul-meeting-of-3 Inv-loop μ-loop
+mul-meeting-of-3 c = let h = ranges (at-named c) in omega arith
 
-element-copy-out-sheet-of-4 : tie.Need-element-copy-out-sheet-of-4 Inv-loop μ-loop
-element-copy-out-sheet-of-4 c = let h = ranges (c .before .before .before .before) in omega arith
+element-copy-out-meeting-of-4 : tie.Need-element-copy-out-meeting-of-4 Inv-loop μ-loop
+element-copy-out-meeting-of-4 c = let h = ranges (at-named c) in omega arith
 
-mul-sheet-of-4 : tie.Need-mul-sheet-of-4 Inv-loop μ-loop
-mul-sheet-of-4 c = let h = ranges (c .before .before .before .before .before) in omega arith
+mul-meeting-of-4 : tie.Need-mul-meeting-of-4 Inv-loop μ-loop
+mul-meeting-of-4 c = let h = ranges (at-named (c .before)) in omega arith
 
-element-copy-out-sheet-of-5 : tie.Need-element-copy-out-sheet-of-5 Inv-loop μ-loop
-element-copy-out-sheet-of-5 c = let h = ranges (c .before .before .before .before .before) in omega arith
+element-copy-out-meeting-of-5 : tie.Need-element-copy-out-meeting-of-5 Inv-loop μ-loop
+element-copy-out-meeting-of-5 c = let h = ranges (at-named (c .before)) in omega arith
 
-element-copy-out-sheet-of-6 : tie.Need-element-copy-out-sheet-of-6 Inv-loop μ-loop
-element-copy-out-sheet-of-6 c = let h = ranges (c .before .before .before .before .before .before) in omega arith
+element-copy-out-meeting-of-6 : tie.Need-element-copy-out-meeting-of-6 Inv-loop μ-loop
+element-copy-out-meeting-of-6 c = let h = ranges (at-named (c .before .before)) in omega arith
 
-sheet-of-requires-2 : tie.Need-sheet-of-requires-2 Inv-loop μ-loop
-sheet-of-requires-2 c κs = search needs
+meeting-of-requires-2 : tie.Need-meeting-of-requires-2 Inv-loop μ-loop
+meeting-of-requires-2 c κs = search needs
 
 look-on-requires : tie.Need-look-on-requires Inv-loop μ-loop
 look-on-requires c κs = search needs
 
 step-requires : tie.Need-step-requires Inv-loop μ-loop
-step-requires c κs = in-range (c .before .before .before .before .before .before .before .before .before .before .before .before .before .before .before .before .before .before .before .before) .process
+step-requires c κs = in-range (at-call (at-named (at-from (at-onto c)))) .process
 
--- the turn is that of the call on what it looks at in the store
-turned : (c : tie.After-step Inv-loop μ-loop) →
-    let call = c .before .before .before .before .before .before .before .before .before .before .before .before .before .before .before .before .before .before .before .before .before .call .given .0 .0 in
-    c .step .result ≡ turnOf call (looksAt (c .before .before .before .before .before .before .before .before .before .before .before .before .before .before .before .before .before .before .before .before .before .before .before .before .before .before .before .before .args .t1) (c .before .before .before .before .before .before .before .before .before .before .before .before .before .before .before .before .before .before .before .before .before .before .before .before .before .loop .next) call)
-unfolding mayRead mayWrite
-turned c =
-    rw (
-      c .step .ensures,
-      c .before .look-on .ensures,
-      c .before .before .before .before .before .before .before .before .before .before .before .before .before .sheet-of .ensures,
-      c .before .before .before .before .before .before .before .before .before .sheet-of2 .ensures,
-      c .before .before .before .before .before .before .before .before .before .before .before .before .before .before .before .before .before .before .before .process-of .ensures,
-      c .before .before .before .before .before .before .before .before .before .before .before .before .before .before .before .before .before .before .file-of .ensures,
-      c .before .before .before .before .before .before .before .before .before .before .before .before .before .before .before .before .before .changeable .ensures,
-    )
-
--- its answer, and its sheet put in its place, are what the call leads to
+-- what the turn answers, and the store with what it leaves in its place, are what the call leads to
 led : (c : tie.After-step Inv-loop μ-loop) →
-    let a = c .before .before .before .before .before .before .before .before .before .before .before .before .before .before .before .before .before .before .before .before .before .before .before .before .before .before .before .before .args in
-    let at = c .before .before .before .before .before .before .before .before .before .before .before .before .before .before .before .before .before .before .before .before .before .before .before .before .before .loop in
-    ran (a .t1) (at .next) (numbersAt (a .calls .now) (at .i)) ≡
-    record { answer = c .step .result .answer; store = withSheet (at .next) (c .before .before .before .before .before .before .before .before .before .before .before .before .before .before .before .before .before .before .before .process-of .result) (c .before .before .before .before .before .before .before .before .before .before .before .before .before .before .before .before .before .changeable .result) (c .step .result .sheet) }
+    let at = named c in
+    let loop = at-loop (decoded-of c) in
+    let a = start loop .args in
+    let left = withMeeting (loop .loop .next) (at-process at .process-of .result) (at .changeable .result) (c .step .result .meeting) in
+    ran (a .t1) (loop .loop .next) (numbersAt (a .calls .now) (loop .loop .i)) ≡ record { answer = c .step .result .answer; store = left }
 led c =
-    rw (
-      ran-is _ _ _ _ (found (c .before .before .before .before .before .before .before .before .before .before .before .before .before .before .before .before .before .before .before .before .before)),
-      turned c,
-      c .before .before .before .before .before .before .before .before .before .before .before .before .before .before .before .before .before .changeable .ensures,
-      c .before .before .before .before .before .before .before .before .before .before .before .before .before .before .before .before .before .before .before .process-of .ensures,
-    )
-    (simp (turn-answer, turn-put))
+    let at = named c in
+    let look = at-look c in
+    let onto = at-onto look in
+    ran-is _ _ _ _ (found (at-call at))
+    ∙ sym
+    (turned _ _ _ (at-process at .process-of .ensures) (at-file at .file-of .ensures) (at .changeable .ensures)
+    (at-from onto .meeting-of .ensures) (onto .meeting-of2 .ensures) (look .look-on .ensures) (c .step .ensures))
 
 mul-next : tie.Need-mul-next Inv-loop μ-loop
-mul-next c = let h = ranges (c .before .before .before .before .before .before .before .before .before .before .before .before .before .before .before .before .before .before .before) in omega arith
+mul-next c = let h = ranges (named (at-step c)) in omega arith
 
 element-write-next : tie.Need-element-write-next Inv-loop μ-loop
-element-write-next c = let h = ranges (c .before .before .before .before .before .before .before .before .before .before .before .before .before .before .before .before .before .before .before) in omega arith
+element-write-next c = let h = ranges (named (at-step c)) in omega arith
 
 mul-content : tie.Need-mul-content Inv-loop μ-loop
-mul-content c = let h = ranges (c .before .before .before .before .before .before .before .before .before .before .before .before .before .before .before .before .before .before .before) in omega arith
+mul-content c = let h = ranges (named (at-step c)) in omega arith
 
 element-set-from-content : tie.Need-element-set-from-content Inv-loop μ-loop
-element-set-from-content c = let h = ranges (c .before .before .before .before .before .before .before .before .before .before .before .before .before .before .before .before .before .before .before) in omega arith
+element-set-from-content c = let h = ranges (named (at-step c)) in omega arith
 
 element-write-next-2 : tie.Need-element-write-next-2 Inv-loop μ-loop
-element-write-next-2 c = let h = ranges (c .before .before .before .before .before .before .before .before .before .before .before .before .before .before .before .before .before .before .before) in omega arith
+element-write-next-2 c = let h = ranges (named (at-step c)) in omega arith
 
 put-requires-2 : tie.Need-put-requires-2 Inv-loop μ-loop
-put-requires-2 c κs = omega (arith, c .before .before .before .before .before .before .before .before .before .before .before .before .before .before .before .before .before .before .before .before .before .before .before .before .before .before .before .before .loop .inv .kept, c .before .before .before .before .before .before .before .before .before .before .before .before .before .before .before .before .before .before .before .before .before .before .before .before .before .before .before .before .loop .inv .spacious, c .before .before .before .before .before .before .before .before .before .before .before .before .before .before .before .before .before .before .before .before .before .before .before .before .before .before .before .loop-test .taken)
+put-requires-2 c κs =
+    let at = decoded-of (at-step (c .before)) in
+    omega (arith, at-loop at .loop .inv .kept, at-loop at .loop .inv .spacious, at-test at .loop-test .taken)
 
 loop-less-2 : tie.Need-loop-less-2 Inv-loop μ-loop
-loop-less-2 c = omega (arith, c .before .before .before .before .before .before .before .before .before .before .before .before .before .before .before .before .before .before .before .before .before .before .before .before .before .before .before .before .before .before .loop-test .taken)
+loop-less-2 c = let at = decoded-of (at-step (at-write (at-put2 c))) in omega (arith, at-test at .loop-test .taken)
 
 loop-again-2 : tie.Need-loop-again-2 Inv-loop μ-loop
 loop-again-2 c =
-    rw (c .before .before .put2 .ensures) (running-more _ _ _ _ _ _ _ (c .before .before .before .before .before .before .before .before .before .before .before .before .before .before .before .before .before .before .before .before .before .before .before .before .before .before .before .before .before .before .before .loop .inv) (c .before .before .before .before .before .before .before .before .before .before .before .before .before .before .before .before .before .before .before .before .before .before .before .before .before .before .before .before .before .before .loop-test .taken) _ _ (led (c .before .before .before .before .before .before)))
+    let put = at-put2 c in
+    let step = at-step (at-write put) in
+    let at = decoded-of step in
+    rw (put .put2 .ensures) (running-more _ _ _ _ _ _ _ (at-loop at .loop .inv) (at-test at .loop-test .taken) _ _ (led step))
 
 same-length : tie.Need-same-length Inv-loop μ-loop
 same-length c = c .before .loop .inv .kept
@@ -228,18 +278,18 @@ run-all-spec =
     add-at-f
     mul-at-x
     add-at-x
-    mul-sheet-of
-    element-copy-out-sheet-of
-    mul-sheet-of-2
-    element-copy-out-sheet-of-2
-    element-copy-out-sheet-of-3
-    sheet-of-requires
-    mul-sheet-of-3
-    element-copy-out-sheet-of-4
-    mul-sheet-of-4
-    element-copy-out-sheet-of-5
-    element-copy-out-sheet-of-6
-    sheet-of-requires-2
+    mul-meeting-of
+    element-copy-out-meeting-of
+    mul-meeting-of-2
+    element-copy-out-meeting-of-2
+    element-copy-out-meeting-of-3
+    meeting-of-requires
+    mul-meeting-of-3
+    element-copy-out-meeting-of-4
+    mul-meeting-of-4
+    element-copy-out-meeting-of-5
+    element-copy-out-meeting-of-6
+    meeting-of-requires-2
     look-on-requires
     step-requires
     mul-next

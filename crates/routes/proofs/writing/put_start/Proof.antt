@@ -5,22 +5,32 @@ use Rattle.lists.proofs.Quads.{calls-three}
 use Rattle.routes.proofs.writing.put_start.Statement.{statement}
 use Rattle.routes.proofs.writing.put_start.Tie as tie
 
+put-plain-requires : tie.Need-put-plain-requires
+put-plain-requires c κs = search needs
+
 put-call-requires : tie.Need-put-call-requires
 put-call-requires c κs = search needs
 
-put-call-requires-2 : tie.Need-put-call-requires-2
-put-call-requires-2 c κs = search needs
-
-put-call-requires-3 : tie.Need-put-call-requires-3
-put-call-requires-3 c κs = search needs
+put-plain-requires-2 : tie.Need-put-plain-requires-2
+put-plain-requires-2 c κs = search needs
 
 same-length : tie.Need-same-length
 same-length c = search needs
 
 returns : tie.Need-returns
-returns c = rw (c .before .before .put-call3 .ensures, c .before .before .before .before .before .before .put-call2 .ensures, c .before .before .before .before .before .before .before .before .before .before .put-call .ensures) (calls-three _ 0 _ _ _ (c .before .before .before .before .before .before .before .before .before .before .before .before .before .pre))
+returns c =
+    let third = c .before .before in
+    let second = third .before .before .before .before in
+    let first = second .before .before .before .before in
+    rw (third .put-plain2 .ensures, second .put-call .ensures, first .put-plain .ensures)
+    (calls-three _ 0 _ _ _ (first .before .before .before .pre))
 
 pub put-start-spec : {M : Type 1} → statement M
 put-start-spec =
     tie.close
-    (tie.spec put-call-requires put-call-requires-2 put-call-requires-3 same-length returns)
+    (tie.spec
+    put-plain-requires
+    put-call-requires
+    put-plain-requires-2
+    same-length
+    returns)

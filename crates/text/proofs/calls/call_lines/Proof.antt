@@ -16,8 +16,22 @@ abbrev μ-loop : tie.MeasureT-loop
 loop-holds : tie.Need-loop-holds Inv-loop μ-loop
 loop-holds c = gathered-none _ _ _ (c .before .before .pre .0)
 
+-- The places: from the loop its start, from a line's being read the loop's test, from its being found sound the reading, and from
+-- its call's being put that it was.
+abbrev start : tie.At-loop Inv-loop μ-loop → tie.Start Inv-loop μ-loop
+start c = c .before .before .before
+
+abbrev at-test : tie.After-call-at Inv-loop μ-loop → tie.In-loop Inv-loop μ-loop
+at-test c = c .before .before
+
+abbrev at-line : tie.Else2 Inv-loop μ-loop → tie.After-call-at Inv-loop μ-loop
+at-line c = c .before .before
+
+abbrev at-sound : tie.After-put-call-arg Inv-loop μ-loop → tie.Else2 Inv-loop μ-loop
+at-sound c = c .before .before
+
 same-length : tie.Need-same-length Inv-loop μ-loop
-same-length c = gathered-length _ _ _ _ _ _ (c .before .before .loop .inv) (c .before .before .before .before .before .pre .1)
+same-length c = let at = c .before .before in gathered-length _ _ _ _ _ _ (at .loop .inv) (start at .pre .1)
 
 returns : tie.Need-returns Inv-loop μ-loop
 returns c = gathered-past-most _ _ _ _ _ _ (c .before .before .loop .inv) (c .before .loop-test .taken) (c .if1 .taken)
@@ -26,36 +40,42 @@ call-at-requires : tie.Need-call-at-requires Inv-loop μ-loop
 call-at-requires c κs = c .before .before .loop .inv .within
 
 same-length-2 : tie.Need-same-length-2 Inv-loop μ-loop
-same-length-2 c =
-    let at = c .before .before .before .before .before in
-    gathered-length _ _ _ _ _ _ (at .loop .inv) (at .before .before .before .pre .1)
+same-length-2 c = let at = at-test (c .before .before) .before in gathered-length _ _ _ _ _ _ (at .loop .inv) (start at .pre .1)
 
 returns-2 : tie.Need-returns-2 Inv-loop μ-loop
 returns-2 c =
-    let called = c .before .before in
-    gathered-broken _ _ _ _ _ _ (called .before .before .before .loop .inv) (called .before .before .loop-test .taken) _ _ (called .call-at .ensures) (c .if2 .taken)
+    let line = c .before .before in
+    let test = at-test line in
+    gathered-broken _ _ _ _ _ _ (test .before .loop .inv) (test .loop-test .taken) _ _ (line .call-at .ensures) (c .if2 .taken)
 
 put-call-requires : tie.Need-put-call-requires Inv-loop μ-loop
 put-call-requires c κs =
-    let at = c .before .before .before .before .before .before in
-    omega (arith, gathered-length _ _ _ _ _ _ (at .loop .inv) (at .before .before .before .pre .1))
+    let line = at-line (at-sound c) in
+    let at = at-test line .before in
+    omega (arith, gathered-length _ _ _ _ _ _ (at .loop .inv) (start at .pre .1), line .before .if1 .left)
 
 add-count : tie.Need-add-count Inv-loop μ-loop
 add-count c = omega arith
 
 loop-less : tie.Need-loop-less Inv-loop μ-loop
 loop-less c =
-    let called = c .before .before .before .before .before .before in
-    omega (arith, gathered-past _ _ _ _ _ _ (called .before .before .before .loop .inv) (called .before .before .loop-test .taken) _ _ (called .call-at .ensures) (c .before .before .before .before .if2 .left))
+    let sound = at-sound (c .before .before .before) in
+    let line = at-line sound in
+    let test = at-test line in
+    omega (arith, gathered-past _ _ _ _ _ _ (test .before .loop .inv) (test .loop-test .taken) _ _ (line .call-at .ensures) (sound .if2 .left))
 
 loop-again : tie.Need-loop-again Inv-loop μ-loop
 loop-again c =
-    let called = c .before .before .before .before .before .before in
-    let at = called .before .before .before in
-    rw (c .before .before .put-call .ensures) (gathered-more _ _ _ _ _ _ (at .loop .inv) (called .before .before .loop-test .taken) _ _ (called .call-at .ensures) (c .before .before .before .before .if2 .left) (at .before .before .before .pre .1) (called .before .if1 .left))
+    let put = c .before .before in
+    let sound = at-sound (put .before) in
+    let line = at-line sound in
+    let test = at-test line in
+    let at = test .before in
+    rw (put .put-call .ensures)
+    (gathered-more _ _ _ _ _ _ (at .loop .inv) (test .loop-test .taken) _ _ (line .call-at .ensures) (sound .if2 .left) (start at .pre .1) (line .before .if1 .left))
 
 same-length-3 : tie.Need-same-length-3 Inv-loop μ-loop
-same-length-3 c = gathered-length _ _ _ _ _ _ (c .before .loop .inv) (c .before .before .before .before .pre .1)
+same-length-3 c = let at = c .before in gathered-length _ _ _ _ _ _ (at .loop .inv) (start at .pre .1)
 
 returns-3 : tie.Need-returns-3 Inv-loop μ-loop
 returns-3 c = gathered-all _ _ _ _ _ _ (c .before .loop .inv) (c .loop-test .left)

@@ -6,7 +6,7 @@ use mathlib.Core.List.{List, _++_}
 use native.Mathlib.Omega.{arith}
 use borrow.Author.Needs.{needs}
 use lib.ListN.{length, getD, set, take, drop, length-set}
-use Rattle.text.proofs.Tables.{copied-more}
+use Rattle.text.proofs.Tables.{front-copied}
 use Rattle.text.proofs.reading.copy_front.Statement.{statement}
 use Rattle.text.proofs.reading.copy_front.Tie as tie
 
@@ -43,7 +43,7 @@ loop-again c =
       omega arith,
       simp length-set (at .loop .inv .1),
       ap (λ (l : List ℕ). set l (at .loop .i) (getD (at .before .args .numbers .now) (at .loop .i) 0)) (at .loop .inv .2)
-          ∙ copied-more (at .before .args .onto .now) (at .before .args .numbers .now) (at .loop .i) (omega arith) (omega arith),
+          ∙ front-copied (at .before .args .onto .now) (at .before .args .numbers .now) (at .loop .i) (omega arith) (omega arith),
     )
 
 same-length : tie.Need-same-length Inv-loop μ-loop

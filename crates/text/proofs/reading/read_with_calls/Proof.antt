@@ -3,7 +3,7 @@
 use mathlib.Core.Path.{_∙_}
 use native.Mathlib.Omega.{arith}
 use borrow.Author.Needs.{needs}
-use Rattle.lines.specs.Readings.{withCalls}
+use Rattle.lines.specs.Readings.{callsFollow}
 use Rattle.lines.proofs.Entries.{reached-no-room, reached-room}
 use Rattle.text.proofs.Ended.{when-sound, when-refused}
 use Rattle.text.proofs.Answered.{with-answered, with-refused, calls-broken, calls-within, call-refused, text-read, text-given, front-of-run, run-holds}
@@ -29,10 +29,10 @@ returns-2 : tie.Need-returns-2
 returns-2 c =
     let read = c .before .before .before in
     with-refused _ _ _ _ _
-    (reached-room _ _ (read .before .if1 .left) ∙ when-refused _ _ _ (c .before .if2 .taken) (read .read-setup .ensures withCalls) .0) (c .refused-text2 .ensures)
+    (reached-room _ _ (read .before .if1 .left) ∙ when-refused _ _ _ (c .before .if2 .taken) (read .read-setup .ensures callsFollow) .0) (c .refused-text2 .ensures)
 
 calls-at-requires : tie.Need-calls-at-requires
-calls-at-requires c κs = when-sound _ _ _ (c .if2 .left) (c .before .before .read-setup .ensures withCalls) .within
+calls-at-requires c κs = when-sound _ _ _ (c .if2 .left) (c .before .before .read-setup .ensures callsFollow) .within
 
 refused-text-requires-3 : tie.Need-refused-text-requires-3
 refused-text-requires-3 c κs = search needs
@@ -41,7 +41,7 @@ returns-3 : tie.Need-returns-3
 returns-3 c =
     let calls = c .before .before in
     let read = calls .before .before .before in
-    let lines = when-sound _ _ _ (calls .before .if2 .left) (read .read-setup .ensures withCalls) in
+    let lines = when-sound _ _ _ (calls .before .if2 .left) (read .read-setup .ensures callsFollow) in
     with-refused _ _ _ _ _
     (reached-room _ _ (read .before .if1 .left) ∙ calls-broken _ _ _ lines _ (calls .calls-at .ensures) (c .before .if3 .taken)) (c .refused-text3 .ensures)
 
@@ -51,7 +51,7 @@ slice-aggregate-call-lines c = search needs
 call-lines-requires : tie.Need-call-lines-requires
 call-lines-requires c κs =
     let calls = c .before .before in
-    let lines = when-sound _ _ _ (calls .before .if2 .left) (calls .before .before .before .read-setup .ensures withCalls) in
+    let lines = when-sound _ _ _ (calls .before .if2 .left) (calls .before .before .before .read-setup .ensures callsFollow) in
     (calls-within _ _ _ lines _ (calls .calls-at .ensures) (c .before .if3 .left), omega arith)
 
 refused-text-requires-4 : tie.Need-refused-text-requires-4
@@ -62,7 +62,7 @@ returns-4 c =
     let call = c .before .before .before .before in
     let calls = call .before .before .before in
     let read = calls .before .before .before in
-    let lines = when-sound _ _ _ (calls .before .if2 .left) (read .read-setup .ensures withCalls) in
+    let lines = when-sound _ _ _ (calls .before .if2 .left) (read .read-setup .ensures callsFollow) in
     let refused = when-refused _ _ _ (c .before .if4 .taken) (call .call-lines .ensures) in
     with-refused _ _ _ _ _
     (reached-room _ _ (read .before .if1 .left) ∙ call-refused _ _ _ lines _ (calls .calls-at .ensures) (call .before .before .if3 .left) _ _ refused)
@@ -98,7 +98,7 @@ returns-5 c =
     let call = some .before .before .before in
     let calls = call .before .before .before in
     let read = calls .before .before .before in
-    let lines = when-sound _ _ _ (calls .before .if2 .left) (read .read-setup .ensures withCalls) in
+    let lines = when-sound _ _ _ (calls .before .if2 .left) (read .read-setup .ensures callsFollow) in
     let gathered = when-sound _ _ _ (some .if4 .left) (call .call-lines .ensures) in
     with-answered _ _ _ _ _
     (reached-room _ _ (read .before .if1 .left) ∙ text-read _ _ _ lines _ (calls .calls-at .ensures) (call .before .before .if3 .left) _ _ _ gathered)

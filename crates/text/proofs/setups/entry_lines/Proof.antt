@@ -19,8 +19,8 @@ abbrev μ-loop : tie.MeasureT-loop
 loop-holds : tie.Need-loop-holds Inv-loop μ-loop
 loop-holds c = entered-none _ _ _ _ _ _ (c .before .before .before .pre .0)
 
-entry-at-requires : tie.Need-entry-at-requires Inv-loop μ-loop
-entry-at-requires c κs = (c .before .loop .inv .within, c .before .before .before .before .before .pre .1)
+entry-line-at-requires : tie.Need-entry-line-at-requires Inv-loop μ-loop
+entry-line-at-requires c κs = (c .before .loop .inv .within, c .before .before .before .before .before .pre .1)
 
 same-length : tie.Need-same-length Inv-loop μ-loop
 same-length c = c .before .before .before .before .loop .inv .long
@@ -28,7 +28,7 @@ same-length c = c .before .before .before .before .loop .inv .long
 returns : tie.Need-returns Inv-loop μ-loop
 returns c =
     let got = c .before .before in
-    entered-broken _ _ _ _ _ _ _ _ _ (got .before .before .loop .inv) (omega arith) _ _ _ (got .entry-at .ensures) (c .if1 .taken)
+    entered-broken _ _ _ _ _ _ _ _ _ (got .before .before .loop .inv) (omega arith) _ _ _ (got .entry-line-at .ensures) (c .if1 .taken)
 
 same-length-2 : tie.Need-same-length-2 Inv-loop μ-loop
 same-length-2 c = c .before .before .before .before .before .before .loop .inv .long
@@ -40,7 +40,7 @@ returns-2 c =
     let at = got .before .before in
     let given : at .before .before .before .before .args .refusal ≡ 0 → ⊥ = λ z. omega arith in
     so-refused _ _ _ given
-    (entered-bound _ _ _ _ _ _ _ _ _ (at .loop .inv) (omega arith) _ _ _ (got .entry-at .ensures) (some .if1 .left) given (c .if2 .taken))
+    (entered-bound _ _ _ _ _ _ _ _ _ (at .loop .inv) (omega arith) _ _ _ (got .entry-line-at .ensures) (some .if1 .left) given (c .if2 .taken))
 
 cast-if3 : tie.Need-cast-if3 Inv-loop μ-loop
 cast-if3 c = search needs
@@ -53,7 +53,8 @@ returns-3 c =
     let small = c .before .before in
     let some = small .before .before in
     let got = some .before .before in
-    entered-order _ _ _ _ _ _ _ _ _ (got .before .before .loop .inv) (omega arith) _ _ _ (got .entry-at .ensures) (some .if1 .left) (small .if2 .left) (c .if3 .taken)
+    entered-order _ _ _ _ _ _ _ _ _ (got .before .before .loop .inv) (omega arith) _ _ _ (got .entry-line-at .ensures) (some .if1 .left)
+    (small .if2 .left) (c .if3 .taken)
 
 cast-entries : tie.Need-cast-entries Inv-loop μ-loop
 cast-entries c = omega arith
@@ -68,14 +69,15 @@ loop-less : tie.Need-loop-less Inv-loop μ-loop
 loop-less c =
     let some = c .before .before .before .before .before in
     let got = some .before .before in
-    omega (arith, entered-past _ _ _ _ _ _ _ _ _ (got .before .before .loop .inv) (omega arith) _ _ _ (got .entry-at .ensures) (some .if1 .left))
+    omega (arith, entered-past _ _ _ _ _ _ _ _ _ (got .before .before .loop .inv) (omega arith) _ _ _ (got .entry-line-at .ensures) (some .if1 .left))
 
 loop-again : tie.Need-loop-again Inv-loop μ-loop
 loop-again c =
     let small = c .before .before .before in
     let some = small .before .before in
     let got = some .before .before in
-    entered-more _ _ _ _ _ _ _ _ _ (got .before .before .loop .inv) (omega arith) _ _ _ (got .entry-at .ensures) (some .if1 .left) (small .if2 .left) (c .before .if3 .left)
+    entered-more _ _ _ _ _ _ _ _ _ (got .before .before .loop .inv) (omega arith) _ _ _ (got .entry-line-at .ensures) (some .if1 .left)
+    (small .if2 .left) (c .before .if3 .left)
 
 same-length-4 : tie.Need-same-length-4 Inv-loop μ-loop
 same-length-4 c = c .before .loop .inv .long
@@ -90,7 +92,7 @@ entry-lines-spec =
     Inv-loop
     μ-loop
     loop-holds
-    entry-at-requires
+    entry-line-at-requires
     same-length
     returns
     same-length-2

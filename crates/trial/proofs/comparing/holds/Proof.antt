@@ -32,13 +32,13 @@ mul-if2 c = search needs
 shared-slice-read-if2 : tie.Need-shared-slice-read-if2 Inv-loop μ-loop
 shared-slice-read-if2 c = search needs
 
-number-at-requires : tie.Need-number-at-requires Inv-loop μ-loop
-number-at-requires c κs = search needs
+front-at-requires : tie.Need-front-at-requires Inv-loop μ-loop
+front-at-requires c κs = search needs
 
 returns-2 : tie.Need-returns-2 Inv-loop μ-loop
 returns-2 c =
     let a = c .before .before .before .before .before .before .before .before .args in
-    let apart = ne-eqb _ _ (λ q. c .if2 .taken (q ∙ sym (c .before .number-at .ensures))) in
+    let apart = ne-eqb _ _ (λ q. c .if2 .taken (q ∙ sym (c .before .front-at .ensures))) in
     told-by (stopped-at _ _ _ (c .before .before .before .loop-test .taken) apart)
     (written-exactly (a .room .now) (a .front .now) (c .before .before .before .before .before .if1 .left))
 
@@ -51,7 +51,7 @@ loop-less c = omega arith
 loop-again : tie.Need-loop-again Inv-loop μ-loop
 loop-again c =
     passed-more _ _ _ (c .before .before .before .before .loop .inv) (c .before .before .before .loop-test .taken)
-    (eq-eqb _ _ (c .if2 .left ∙ c .before .number-at .ensures))
+    (eq-eqb _ _ (c .if2 .left ∙ c .before .front-at .ensures))
 
 returns-3 : tie.Need-returns-3 Inv-loop μ-loop
 returns-3 c =
@@ -69,7 +69,7 @@ holds-spec =
     loop-holds
     mul-if2
     shared-slice-read-if2
-    number-at-requires
+    front-at-requires
     returns-2
     add-i
     loop-less

@@ -10,25 +10,25 @@ use borrow.Author.Tests.{eq-eqb, ne-eqb}
 use lib.Dec.{eqb}
 use lib.ListN.{length, getD}
 use Rattle.rules.specs.Sizes.{mostFiles, every}
-use Rattle.rules.specs.Stores.{blankContent}
+use Rattle.rules.specs.Stores.{pastContents}
 use Rattle.rules.proofs.Passed.{Passed, passed-none, passed-more, passed-all, stopped-at}
 use Rattle.trial.proofs.Alike.{told-by, alike-exactly, contents-tell}
 use Rattle.trial.proofs.comparing.same_contents.Statement.{statement}
 use Rattle.trial.proofs.comparing.same_contents.Tie as tie
 
 abbrev Inv-loop : tie.InvT-loop
-Inv-loop a b i₀ i = Passed mostFiles (λ k. eqb (getD a k blankContent .figure) (getD b k blankContent .figure)) i
+Inv-loop a b i₀ i = Passed mostFiles (λ k. eqb (getD a k pastContents .figure) (getD b k pastContents .figure)) i
 
 abbrev μ-loop : tie.MeasureT-loop
 μ-loop a b i₀ i = mostFiles - i
 
 -- the two arrays are the same exactly where the figures are at each place
 exactly : (c : tie.Start Inv-loop μ-loop) → let a = c .args .t1 in let b = c .args .t2 in
-    (every mostFiles (λ k. eqb (getD a k blankContent .figure) (getD b k blankContent .figure)) ≡ true) ↔ (a ≡ b)
+    (every mostFiles (λ k. eqb (getD a k pastContents .figure) (getD b k pastContents .figure)) ≡ true) ↔ (a ≡ b)
 exactly c =
     let k : length (c .args .t1) ≡ mostFiles = search needs in
     let l : length (c .args .t2) ≡ mostFiles = search needs in
-    alike-exactly (λ x y. eqb (x .figure) (y .figure)) contents-tell blankContent mostFiles (c .args .t1) (c .args .t2) k l
+    alike-exactly (λ x y. eqb (x .figure) (y .figure)) contents-tell pastContents mostFiles (c .args .t1) (c .args .t2) k l
 
 loop-holds : tie.Need-loop-holds Inv-loop μ-loop
 loop-holds c = passed-none _ _

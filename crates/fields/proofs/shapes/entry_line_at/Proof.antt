@@ -1,11 +1,11 @@
--- `fields::shapes::entry_at` meets its contract: the line is begun with its word, and the rest of it is two numbers.
+-- `fields::shapes::entry_line_at` meets its contract: the line is begun with its word, and the rest of it is two numbers.
 -- Assumes nothing.
 use mathlib.Core.List.{[], _∷_}
 use borrow.Author.Needs.{needs}
 use Rattle.lines.specs.Shapes.{Shape, theWord, aNumber, readAs}
-use Rattle.fields.proofs.Composed.{Begun, begun, begun-more, begun-stops}
-use Rattle.fields.proofs.shapes.entry_at.Statement.{statement}
-use Rattle.fields.proofs.shapes.entry_at.Tie as tie
+use Rattle.fields.proofs.Composed.{Begun, begun, begun-more, begun-lacks}
+use Rattle.fields.proofs.shapes.entry_line_at.Statement.{statement}
+use Rattle.fields.proofs.shapes.entry_line_at.Tie as tie
 
 abbrev shape : tie.Start → Shape
 shape s = theWord (s .args .word .now) ∷ aNumber ∷ aNumber ∷ []
@@ -26,7 +26,7 @@ no-pair-requires c κs = search needs
 
 returns : tie.Need-returns
 returns c =
-    begun-stops (start (c .before .before .before .before .before)) _ _ (c .before .before .word-at .ensures) (c .before .if1 .taken) (c .no-pair .ensures)
+    begun-lacks (start (c .before .before .before .before .before)) _ _ (c .before .before .word-at .ensures) (c .before .if1 .taken) (c .no-pair .ensures)
 
 pair-at-requires : tie.Need-pair-at-requires
 pair-at-requires c κs = word c .within
@@ -34,6 +34,6 @@ pair-at-requires c κs = word c .within
 returns-2 : tie.Need-returns-2
 returns-2 c = word (c .before) .goes (c .pair-at .result .next) _ (c .pair-at .ensures)
 
-pub entry-at-spec : {M : Type 1} → statement M
-entry-at-spec =
+pub entry-line-at-spec : {M : Type 1} → statement M
+entry-line-at-spec =
     tie.close (tie.spec word-at-requires no-pair-requires returns pair-at-requires returns-2)

@@ -7,5 +7,5 @@ use Rattle.lines.specs.Lines.{pieces, linesFrom}
 use Rattle.lines.specs.Readings.{SoFar, Reached, sound, Text, judgeAll, atEnd}
 
 -- what the lines from a cursor on come to
-unfoldable pub onward : Text → List ℕ → ℕ → SoFar → Reached
-onward t text at s = atEnd t (length text) (judgeAll t (sound s) (linesFrom at (pieces lineFeed (drop at text))))
+unfoldable pub readOn : Text → List ℕ → ℕ → SoFar → Reached
+readOn t text at s = atEnd t (length text) (judgeAll t (sound s) (linesFrom at (pieces lineFeed (drop at text))))

@@ -7,9 +7,10 @@ use mathlib.Core.Logic.{_≢_}
 use native.Mathlib.Nat.{lt-of-lt-of-le}
 use native.Mathlib.Omega.{arith}
 use Rattle.rules.specs.Setups.{accepted}
-use Rattle.rules.specs.Calls.{Numbers, callOf, answerTo, nextStore}
+use Rattle.rules.specs.Calls.{callOf, answerTo, nextStore}
 use Rattle.rules.specs.Refusals.{callRefusal, judgeRefusal, numbersRefusal}
 use Rattle.rules.specs.Entries.{unless, decoded, called, ran}
+use Rattle.rules.specs.declared.Numbers.{Numbers}
 use Rattle.rules.specs.declared.Setup.{Setup}
 use Rattle.rules.specs.declared.Store.{Store}
 use Rattle.rules.specs.declared.Call.{Call}

@@ -1,4 +1,4 @@
--- `fields::parts::number_at` meets its contract. The loop's invariant: the bytes that have gone by are digits, and `value` is theirs.
+-- `fields::parts::decimal_at` meets its contract. The loop's invariant: the bytes that have gone by are digits, and `value` is theirs.
 -- Assumes nothing.
 use Prim.Native.Nat.{ℕ, _+_, _-_, _*_, _<_, _≤_}
 use mathlib.Core.Path.{_≡_, _∙_}
@@ -13,19 +13,19 @@ use Rattle.lines.specs.Bytes.{digit0, digit}
 use Rattle.lines.specs.Decimals.{ten, isDigit}
 use Rattle.lines.proofs.Decimals.{isDigit-iff}
 use Rattle.fields.proofs.Firsts.{told-none}
-use Rattle.fields.proofs.Scanned.{Counted, counted-none, counted-more, counted-large, counted-no-digit, counted-at-end, counted-unmarked, counted-zero, counted-there, no-digit-past}
-use Rattle.fields.proofs.parts.number_at.Statement.{statement}
-use Rattle.fields.proofs.parts.number_at.Tie as tie
+use Rattle.fields.proofs.Scanned.{Counted, counted-none, counted-more, counted-large, counted-no-digit, counted-at-end, counted-runs-on, counted-zero, counted-there, no-digit-past}
+use Rattle.fields.proofs.parts.decimal_at.Statement.{statement}
+use Rattle.fields.proofs.parts.decimal_at.Tie as tie
 
 abbrev Inv-loop : tie.InvT-loop
-Inv-loop text at mark value₀ i₀ value i = (i ≤ length text) × (value ≤ mostNumber) × Counted text at i value
+Inv-loop text at stop value₀ i₀ value i = (i ≤ length text) × (value ≤ mostNumber) × Counted text at i value
 
 abbrev μ-loop : tie.MeasureT-loop
-μ-loop text at mark value₀ i₀ value i = length text - i
+μ-loop text at stop value₀ i₀ value i = length text - i
 
 -- where the loop is left no digit is next
-stop : (c : tie.Left-loop Inv-loop μ-loop) → isDigit (getD (c .before .before .before .args .text .now) (c .before .loop .i) 0) ≡ false
-stop c =
+no-digit : (c : tie.Left-loop Inv-loop μ-loop) → isDigit (getD (c .before .before .before .args .text .now) (c .before .loop .i) 0) ≡ false
+no-digit c =
     ⊎-elim (λ w. no-digit-past (c .before .before .before .args .text .now) (c .before .loop .i) (w .left)) (λ w. fails (w .2 .ensures) (w .3 .taken))
     (c .loop-test .came)
 
@@ -88,7 +88,7 @@ returns-2 : tie.Need-returns-2 Inv-loop μ-loop
 returns-2 c =
     let left = c .before .before in
     told-none _ _ (c .no-number2 .ensures .0)
-    ∙ counted-no-digit _ _ _ _ _ (left .before .before .before .pre .1) (left .before .loop .inv .2) (stop left) (c .before .if3 .taken)
+    ∙ counted-no-digit _ _ _ _ _ (left .before .before .before .pre .1) (left .before .loop .inv .2) (no-digit left) (c .before .if3 .taken)
 
 no-number-requires-3 : tie.Need-no-number-requires-3 Inv-loop μ-loop
 no-number-requires-3 c κs = tt
@@ -97,7 +97,7 @@ returns-3 : tie.Need-returns-3 Inv-loop μ-loop
 returns-3 c =
     let left = c .before .before .before in
     told-none _ _ (c .no-number3 .ensures .0)
-    ∙ counted-at-end _ _ _ _ _ (left .before .before .before .pre .1) (left .before .loop .inv .2) (stop left) (omega arith)
+    ∙ counted-at-end _ _ _ _ _ (left .before .before .before .pre .1) (left .before .loop .inv .2) (no-digit left) (omega arith)
 
 shared-slice-read-if5 : tie.Need-shared-slice-read-if5 Inv-loop μ-loop
 shared-slice-read-if5 c = omega arith
@@ -109,7 +109,7 @@ returns-4 : tie.Need-returns-4 Inv-loop μ-loop
 returns-4 c =
     let left = c .before .before .before .before .before in
     told-none _ _ (c .no-number4 .ensures .0)
-    ∙ counted-unmarked _ _ _ _ _ (left .before .before .before .pre .1) (left .before .loop .inv .2) (stop left) (λ e. omega arith)
+    ∙ counted-runs-on _ _ _ _ _ (left .before .before .before .pre .1) (left .before .loop .inv .2) (no-digit left) (λ e. omega arith)
 
 shared-slice-read-if6 : tie.Need-shared-slice-read-if6 Inv-loop μ-loop
 shared-slice-read-if6 c = omega arith
@@ -124,7 +124,7 @@ returns-5 : tie.Need-returns-5 Inv-loop μ-loop
 returns-5 c =
     let left = c .before .before .before .before .before .before .before .before in
     told-none _ _ (c .no-number5 .ensures .0)
-    ∙ counted-zero _ _ _ _ _ (left .before .before .before .pre .1) (left .before .loop .inv .2) (stop left) (c .before .before .if6 .taken)
+    ∙ counted-zero _ _ _ _ _ (left .before .before .before .pre .1) (left .before .loop .inv .2) (no-digit left) (c .before .before .if6 .taken)
     (omega (arith, ltb-true))
 
 add-t15 : tie.Need-add-t15 Inv-loop μ-loop
@@ -139,8 +139,8 @@ returns-6 c =
     counted-there _ _ _ _ _ (left .before .before .before .pre .1) (left .before .loop .inv .2) (omega (arith, left .before .loop .inv .2 .scanned .long)) (omega arith) (omega arith) (left .before .loop .inv .1)
     (λ z. ⊎-elim (λ w. omega (arith, ltb-false)) (λ w. absurd (w .left z)) (c .if6 .came))
 
-pub number-at-spec : {M : Type 1} → statement M
-number-at-spec =
+pub decimal-at-spec : {M : Type 1} → statement M
+decimal-at-spec =
     tie.close
     (tie.spec
     Inv-loop
