@@ -10,10 +10,10 @@
  * bytes in it may be handed in: it is judged first, and refused with 15 or 16 where it is unsound.
  *
  * Refusals. What cannot be done is refused with a number, DW_REFUSAL_*; each function's comment names those
- * that it gives, in their order. A function that hands back a setup or a store tells a refusal in `refusal`,
- * which is else 0; every other tells it as an answer of the kind DW_REFUSED with the number as its value. A
- * refused function changes nothing: a store comes back, or lies there, as it was, and nothing is written to
- * what was lent.
+ * that it gives, in their order. dw_accept and dw_fresh tell a refusal in `refusal`, and dw_judge as the number
+ * that it hands back, which is else 0; every other function tells it as an answer of the kind DW_REFUSED with
+ * the number as its value. A refused function changes nothing: a store comes back, or lies there, as it was,
+ * and nothing is written to what was lent.
  *
  * What is asked in return, of pointers alone, since nothing can judge them:
  *   - no pointer is null, not even beside a length of 0;
@@ -51,8 +51,8 @@ typedef __SIZE_TYPE__ size_t;
 extern "C" {
 #endif
 
-/* The version of this header and its library: of document 01 and the requests after it that are in. It goes up when
- * a struct, a function or a meaning changes. */
+/* The version of this header. It goes up when a struct, a function or a meaning changes; a library is built with the
+ * header that it comes with. */
 #define DW_VERSION 1
 
 /* ---- Sizes: the most of each thing. There is at least one of each, but a list of calls may be empty. */
@@ -77,7 +77,7 @@ extern "C" {
 /* Room for the calls of every text. */
 #define DW_CALL_NUMBERS (DW_CALLS * DW_CALL_WIDTH)
 
-/* A route over k links is shown by 4k + 1 calls, and a chain needs one link less than there are desks. So this is room for
+/* A route over k links is shown by 4k + 1 calls, and a chain needs at most one link less than there are desks. So this is room for
  * every list: 61 calls, 244 numbers. */
 #define DW_ROUTE_CALLS(links) (4 * (links) + 1)
 #define DW_ROUTE_NUMBERS (DW_ROUTE_CALLS(DW_DESKS - 1) * DW_CALL_WIDTH)

@@ -12,9 +12,9 @@ use rules::Decoded;
 use rules::EXTRA_GIVEN;
 use rules::FIRST_CODE;
 use rules::LAST_CODE;
-use rules::NO_FILE;
-use rules::NO_OPERATION;
-use rules::NO_PROCESS;
+use rules::NO_SUCH_FILE;
+use rules::NO_SUCH_OPERATION;
+use rules::NO_SUCH_PROCESS;
 use rules::Numbers;
 use rules::Setup;
 ghost use mathlib.Core.Path.{_≡_};
@@ -31,20 +31,20 @@ fn numbers_refusal(setup: Setup, n: Numbers) -> u32
     let f = n.file;
     let x = n.extra;
     if op < FIRST_CODE {
-        return NO_OPERATION;
+        return NO_SUCH_OPERATION;
     }
     if LAST_CODE < op {
-        return NO_OPERATION;
+        return NO_SUCH_OPERATION;
     }
     if setup.processes <= p {
-        return NO_PROCESS;
+        return NO_SUCH_PROCESS;
     }
     if setup.files <= f {
-        return NO_FILE;
+        return NO_SUCH_FILE;
     }
     if op == CODE_OF_COPY {
         if setup.files <= x {
-            return NO_FILE;
+            return NO_SUCH_FILE;
         }
         if x == f {
             return COPY_ONTO_ITSELF;

@@ -87,9 +87,9 @@ pub extern "C" fn dw_run(setup: Setup, store: Store, calls: &[u32], answers: &mu
         ⌜ (r .numbered .kind ≡ listNumbersOf (l .answer) .0) × (r .numbered .value ≡ listNumbersOf (l .answer) .1) × (r .store ≡ l .store) ⌝ }
     ensures room { λ _. ⌜ now (answers .exit) ≡ answersAfter setup store (now (calls .entry)) (now (answers .entry)) ⌝ }
 {
-    let outcome = run(setup, store, calls, answers);
-    let answer = outcome.answer;
-    let next = outcome.store;
+    let listed = run(setup, store, calls, answers);
+    let answer = listed.answer;
+    let next = listed.store;
     let numbered = list_numbers_of(answer);
     Outcome {
         numbered,

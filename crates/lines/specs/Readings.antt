@@ -138,7 +138,7 @@ callLineOrder s = refusal14 (leb mostCalls (length (s .calls))) ∷ []
 abbrev pub afterCall : SoFar → Numbers → SoFar
 afterCall s n = callsSoFar s (s .calls ++ (n ∷ []))
 
--- each kind of line, by its shape, its refusals in their order, and what is read after it
+-- each kind of line, by its shape, its refusals in their order, and the state after it
 abbrev pub judgeHeader : ℕ → List (List ℕ) → Reached
 judgeHeader at fields = judged at (headerLine fields) headerOrder afterHeader
 

@@ -9,7 +9,7 @@ use judging::fitting::accepted;
 use reaching::linking::links_of;
 use reaching::nearing::FAR;
 use reaching::nearing::reach;
-use rules::NO_ROUTE_DESK;
+use rules::NO_SUCH_ROUTE_DESK;
 use rules::NOT_ACCEPTED;
 use rules::SAME_DESK;
 use rules::Setup;
@@ -27,10 +27,10 @@ fn route_refusal(setup: Setup, a: u32, b: u32, room: usize) -> u32
         return NOT_ACCEPTED;
     }
     if setup.desks <= a {
-        return NO_ROUTE_DESK;
+        return NO_SUCH_ROUTE_DESK;
     }
     if setup.desks <= b {
-        return NO_ROUTE_DESK;
+        return NO_SUCH_ROUTE_DESK;
     }
     if a == b {
         return SAME_DESK;

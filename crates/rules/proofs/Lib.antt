@@ -1,4 +1,4 @@
--- The laws of the definitions in specs/: a file for each of theirs, Codes, Decodes and Quads on parts of the calls and entries,
+-- The laws of the definitions in specs/: a file for each of theirs but Parts, Codes, Decodes and Quads on parts of the calls and entries,
 -- and Lists, Told, Passed and Filled on lists, tests and loops.
 pub mod Answers
 pub mod Calls

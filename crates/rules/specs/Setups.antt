@@ -76,7 +76,8 @@ desksFit s = every mostProcesses (λ p. entryFits (s .processes) (s .desks) p (d
 unfoldable pub classesFit : Setup → Bool
 classesFit s = every mostFiles (λ f. entryFits (s .files) (s .classes) f (classOf s f))
 
--- what is asked of a setup value: "every entry past the counts is 0"
+-- what is asked of a setup value: its counts lie inside their sizes, its entries before the counts below their bounds, and "every entry past
+-- the counts is 0"
 abbrev pub setupAsked : Setup → List Bool
 setupAsked s =
     withinSizes (s .desks) (s .classes) (s .processes) (s .files)

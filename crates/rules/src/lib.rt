@@ -36,11 +36,11 @@ pub const NO_SUCH_DESK: u32 = 3;
 
 pub const NO_SUCH_CLASS: u32 = 4;
 
-pub const NO_OPERATION: u32 = 5;
+pub const NO_SUCH_OPERATION: u32 = 5;
 
-pub const NO_PROCESS: u32 = 6;
+pub const NO_SUCH_PROCESS: u32 = 6;
 
-pub const NO_FILE: u32 = 7;
+pub const NO_SUCH_FILE: u32 = 7;
 
 pub const EXTRA_GIVEN: u32 = 8;
 
@@ -50,7 +50,7 @@ pub const WRONG_LENGTH: u32 = 10;
 
 pub const TOO_LITTLE_ROOM: u32 = 11;
 
-pub const NO_ROUTE_DESK: u32 = 12;
+pub const NO_SUCH_ROUTE_DESK: u32 = 12;
 
 pub const SAME_DESK: u32 = 13;
 

@@ -18,7 +18,7 @@ use Rattle.lines.proofs.Faults.{further-refused}
 use Rattle.fields.specs.Cursor.{told, lineAt}
 use Rattle.fields.proofs.Firsts.{told-some, told-none, line-within}
 use Rattle.text.specs.ReadOn.{readOn}
-use Rattle.text.specs.Stages.{SetupLines, CallsRead}
+use Rattle.text.specs.Stages.{SetupLines, CallLinesRead}
 use Rattle.text.proofs.ReadOn.{judges-takes, shape-broken, line-read, all-refused, none-missing}
 use Rattle.text.proofs.Stages.{calls-judged}
 
@@ -80,7 +80,7 @@ module _ (text : List ℕ) (end : ℕ) (setup : Setup) (s : SetupLines callsFoll
     pub call-refused : (r at : ℕ) → ((m : SoFar) → readOn callsFollow text next (afterCalls m) ≡ refused r at) → readText callsFollow text ≡ refused r at
     call-refused r at h = calls-read ∙ h (s .so-far)
 
-    module _ (count : ℕ) (was run : List ℕ) (c : CallsRead text next count was run) where
+    module _ (count : ℕ) (was run : List ℕ) (c : CallLinesRead text next count was run) where
       pub text-read : readText callsFollow text ≡ sound (callsSoFar (s .so-far) (c .calls))
       text-read = calls-read ∙ c .leads (s .so-far)
 
@@ -95,6 +95,6 @@ module _ (text : List ℕ) (end : ℕ) (setup : Setup) (s : SetupLines callsFoll
           rw (front, c .count-is)
 
 -- a run that calls were read into holds them
-pub run-holds : (text : List ℕ) (at count : ℕ) (was run : List ℕ) → CallsRead text at count was run → count * callWidth ≤ length run
+pub run-holds : (text : List ℕ) (at count : ℕ) (was run : List ℕ) → CallLinesRead text at count was run → count * callWidth ≤ length run
 run-holds text at count was run c =
     omega (arith, simp length-append at (ap length (c .are)), inQuads-length (c .calls), c .count-is)

@@ -17,7 +17,7 @@ use Rattle.lines.proofs.Faults.{past-most-refused}
 use Rattle.fields.specs.Cursor.{told, lineAt}
 use Rattle.fields.proofs.Firsts.{told-some, told-none, line-within}
 use Rattle.text.specs.ReadOn.{readOn}
-use Rattle.text.specs.Stages.{CallsRead}
+use Rattle.text.specs.Stages.{CallLinesRead}
 use Rattle.text.proofs.ReadOn.{judges-takes, shape-broken, line-read, all-refused, none-missing}
 use Rattle.text.proofs.Stages.{call-judged}
 
@@ -35,7 +35,7 @@ gathered-none text at was l =
     record { calls = []; count-is = refl; few = omega arith; are = sym (no-calls was 0); within = l; leads = λ s. refl }
 
 module _ (text : List ℕ) (at : ℕ) (was run : List ℕ) (from count : ℕ) (so-far : Gathered text at was run from count) where
-  pub gathered-all : length text ≤ from → CallsRead text at count was run
+  pub gathered-all : length text ≤ from → CallLinesRead text at count was run
   gathered-all l =
       record {
         calls = so-far .calls;

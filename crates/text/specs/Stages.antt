@@ -103,16 +103,16 @@ SetupEnd t text refusal end setup =
     unless refusal (SetupLines t text end setup) ((readText t text ≡ refused refusal end) × (setup ≡ blankSetup))
 
 -- the same of the lines after a header that is sound, and after access lines that are
-abbrev pub AfterHeader : List ℕ → ℕ → Header → ℕ → ℕ → Setup → Type 0
-AfterHeader text at h refusal end setup = (t : Text) → readText t text ≡ readOn t text at (afterHeader h) → SetupEnd t text refusal end setup
+abbrev pub SetupEndAfterHeader : List ℕ → ℕ → Header → ℕ → ℕ → Setup → Type 0
+SetupEndAfterHeader text at h refusal end setup = (t : Text) → readText t text ≡ readOn t text at (afterHeader h) → SetupEnd t text refusal end setup
 
-abbrev pub AfterAccess : List ℕ → ℕ → Header → List ℕ → ℕ → ℕ → Setup → Type 0
-AfterAccess text at h rights refusal end setup =
+abbrev pub SetupEndAfterAccess : List ℕ → ℕ → Header → List ℕ → ℕ → ℕ → Setup → Type 0
+SetupEndAfterAccess text at h rights refusal end setup =
     (t : Text) (access : List Access) → AllInside (h .desks) (h .classes) access → rights ≡ rightsOf access
     → readText t text ≡ readOn t text at (setDue (accessStage h access) processDue) → SetupEnd t text refusal end setup
 
 -- call lines that are sound to the end of the text, at the front of a run
-pub record CallsRead (text : List ℕ) (at count : ℕ) (was run : List ℕ) : Type 0 where
+pub record CallLinesRead (text : List ℕ) (at count : ℕ) (was run : List ℕ) : Type 0 where
   pub calls : List Numbers
   pub count-is : length calls ≡ count
   pub few : count ≤ mostCalls
@@ -122,5 +122,5 @@ pub record CallsRead (text : List ℕ) (at count : ℕ) (was run : List ℕ) : T
 abbrev pub CallsEnd : List ℕ → ℕ → ℕ → ℕ → ℕ → List ℕ → List ℕ → Type 0
 CallsEnd text at refusal end count was run =
     unless refusal
-    (CallsRead text at count was run)
+    (CallLinesRead text at count was run)
     ((s : SoFar) → readOn callsFollow text at (afterCalls s) ≡ refused refusal end)

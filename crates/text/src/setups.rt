@@ -27,7 +27,7 @@ ghost use Rattle.rules.specs.Setups.{withinSizes, blankSetup};
 ghost use Rattle.lines.specs.Shapes.{header};
 ghost use Rattle.lines.specs.Readings.{Text};
 ghost use Rattle.fields.specs.Cursor.{noStop};
-ghost use Rattle.text.specs.Stages.{mostEntry, AccessEnd, EntriesEnd, SetupEnd, AfterHeader, AfterAccess};
+ghost use Rattle.text.specs.Stages.{mostEntry, AccessEnd, EntriesEnd, SetupEnd, SetupEndAfterHeader, SetupEndAfterAccess};
 
 // The access lines from a cursor on. They end at the first line that has not their shape: if its first field is `access`
 // all the same, the process line that is due finds it broken at the same offset.
@@ -116,7 +116,7 @@ fn refused_setup(refusal: u32, at: usize) -> SetupRead
 // The process lines and the file lines, after the access lines have given their rights.
 fn entry_tables(text: &[u8], at: usize, counts: Counts, rights: [u8; RIGHTS]) -> SetupRead
     requires { ⌜ (at ≤ length (now text)) × (withinSizes (counts .desks) (counts .classes) (counts .processes) (counts .files) ≡ true) ⌝ }
-    ensures { λ r. ⌜ AfterAccess (now (text .entry)) at (header (counts .desks) (counts .classes) (counts .processes) (counts .files)) rights (r .refusal) (r .at) (r .setup) ⌝ }
+    ensures { λ r. ⌜ SetupEndAfterAccess (now (text .entry)) at (header (counts .desks) (counts .classes) (counts .processes) (counts .files)) rights (r .refusal) (r .at) (r .setup) ⌝ }
 {
     let mut desk = [0u8; PROCESSES];
     let p = counts.processes as usize;
@@ -163,7 +163,7 @@ fn entry_tables(text: &[u8], at: usize, counts: Counts, rights: [u8; RIGHTS]) ->
 // The lines after the header: the tables are filled as their lines are read.
 fn table_lines(text: &[u8], counts: Counts) -> SetupRead
     requires { ⌜ (counts .next ≤ length (now text)) × (withinSizes (counts .desks) (counts .classes) (counts .processes) (counts .files) ≡ true) ⌝ }
-    ensures { λ r. ⌜ AfterHeader (now (text .entry)) (counts .next) (header (counts .desks) (counts .classes) (counts .processes) (counts .files)) (r .refusal) (r .at) (r .setup) ⌝ }
+    ensures { λ r. ⌜ SetupEndAfterHeader (now (text .entry)) (counts .next) (header (counts .desks) (counts .classes) (counts .processes) (counts .files)) (r .refusal) (r .at) (r .setup) ⌝ }
 {
     let mut rights = [0u8; RIGHTS];
     let access = access_lines(text, counts.next, counts.desks, counts.classes, &mut rights);

@@ -75,11 +75,11 @@ case7 =
 abbrev pub case8a : Case
 case8a = calls setup8 freshStore (openCall 0 0 ∷ lockCall 1 0 ∷ testlockCall 1 0 ∷ []) ((0, 0) ∷ (0, 0) ∷ (2, 0) ∷ []) none
 
--- "and yes without desk 0's call"
+-- the same without desk 0's call: yes here too, where by 000's LOCK the two would differ
 abbrev pub case8b : Case
 case8b = calls setup8 freshStore (lockCall 1 0 ∷ testlockCall 1 0 ∷ []) ((0, 0) ∷ (2, 0) ∷ []) none
 
--- "though no link runs from desk 0"
+-- "though no link runs from desk 0": so there is no route to desk 1
 abbrev pub case8c : Case
 case8c = route setup8 0 1 244 (0, 0) []
 
