@@ -166,10 +166,10 @@ typedef struct dw_given_setup {
     dw_setup setup;                 /* else all of it is 0, which no function takes for a setup */
 } dw_given_setup;                   /* 372 bytes */
 
+/* Where no store is given, one lies there that fits no setup: nothing locked, all figures 0, all open marks 2. */
 typedef struct dw_given_store {
     uint32_t refusal;               /* 0 where a store is given */
-    dw_store store;                 /* else nothing is locked, all figures are 0 and all open marks are 2: it fits
-                                       no setup */
+    dw_store store;
 } dw_given_store;                   /* 2308 bytes */
 
 typedef struct dw_answer {
@@ -189,11 +189,11 @@ typedef struct dw_listed {
     dw_store store;
 } dw_listed;                        /* 2312 bytes */
 
-/* What became of a text, and the setup that was read. */
+/* What became of a text, and the setup that was read. The offset of a refusal is that of the faulty line's first byte, for a
+ * missing line the text's length, and 0 for too little room. */
 typedef struct dw_text {
     dw_answer answer;               /* DW_DONE and the number of calls read; or DW_REFUSED and the number */
-    size_t offset;                  /* where the text is refused, of the faulty line's first byte, or the text's length
-                                       for a missing line; 0 for too little room, and where nothing is refused */
+    size_t offset;                  /* where the text is refused; 0 where it is not */
     dw_setup setup;                 /* where the text is refused, all of it is 0 */
 } dw_text;                          /* 384 bytes */
 

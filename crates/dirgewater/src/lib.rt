@@ -50,7 +50,22 @@ pub fn numbers_of(answer: Answer) -> Numbered
     }
 }
 
-// One call by value. What it answers is the two numbers, so that a call in place has only to put the store back.
+// One call by value, answered as two numbers.
+fn outcome_of(setup: Setup, store: Store, n: Numbers) -> Outcome
+    ensures { λ r. let c = called setup store n in
+        ⌜ (r .numbered .kind ≡ kindOf (c .answer)) × (r .numbered .value ≡ valueOf (c .answer)) × (r .store ≡ c .store) ⌝ }
+{
+    let called = call(setup, store, n);
+    let answer = called.answer;
+    let next = called.store;
+    let numbered = numbers_of(answer);
+    Outcome {
+        numbered,
+        store: next,
+    }
+}
+
+// The same from plain numbers, as they cross from C: a call in place has only to put the store back.
 pub fn call_numbered(setup: Setup, store: Store, op: u32, p: u32, f: u32, x: u32) -> Outcome
     ensures { λ r. let c = called setup store (numbers op p f x) in
         ⌜ (r .numbered .kind ≡ kindOf (c .answer)) × (r .numbered .value ≡ valueOf (c .answer)) × (r .store ≡ c .store) ⌝ }
@@ -61,12 +76,5 @@ pub fn call_numbered(setup: Setup, store: Store, op: u32, p: u32, f: u32, x: u32
         file: f,
         extra: x,
     };
-    let outcome = call(setup, store, n);
-    let answer = outcome.answer;
-    let next = outcome.store;
-    let numbered = numbers_of(answer);
-    Outcome {
-        numbered,
-        store: next,
-    }
+    outcome_of(setup, store, n)
 }

@@ -1,12 +1,12 @@
--- `dirgewater::call_numbered` meets its contract: what `calling::entry::call` returns is `called`'s, so its two numbers and its store are.
+-- `dirgewater::outcome_of` meets its contract: what `calling::entry::call` returns is `called`'s, so its two numbers and its store are.
 -- Assumes nothing.
 use borrow.Author.Needs.{needs}
 use Prim.Native.Nat.{ℕ}
 use mathlib.Core.Path.{_≡_, _∙_, ap}
 use Rattle.rules.specs.Answers.{kindOf, valueOf}
 use Rattle.rules.specs.declared.Called.{Called}
-use Rattle.dirgewater.proofs.call_numbered.Statement.{statement}
-use Rattle.dirgewater.proofs.call_numbered.Tie as tie
+use Rattle.dirgewater.proofs.outcome_of.Statement.{statement}
+use Rattle.dirgewater.proofs.outcome_of.Tie as tie
 
 call-requires : tie.Need-call-requires
 call-requires c κs = search needs
@@ -27,5 +27,5 @@ promised e n = (
 returns : tie.Need-returns
 returns c = promised (c .before .before .call .ensures .0) (c .numbers-of .ensures)
 
-pub call-numbered-spec : {M : Type 1} → statement M
-call-numbered-spec = tie.close (tie.spec call-requires numbers-of-requires returns)
+pub outcome-of-spec : {M : Type 1} → statement M
+outcome-of-spec = tie.close (tie.spec call-requires numbers-of-requires returns)
