@@ -8,7 +8,8 @@ use Rattle.calling.proofs.Turns.{turned}
 use Rattle.calling.proofs.entry.run_one.Statement.{statement}
 use Rattle.calling.proofs.entry.run_one.Tie as tie
 
--- The places, each from a later one: the start, what the call names, what its process meets of the two files, the look, the step
+-- The places, each from a later one: the start, what the call names, what its process meets of the two files, the setup's
+-- tables lent, the look, the step
 abbrev start : tie.After-changeable → tie.Start
 start c = c .before .before .before
 
@@ -24,8 +25,11 @@ at-named c = c .before .before .before .before
 abbrev at-from : tie.After-meeting-of2 → tie.After-meeting-of
 at-from c = c .before .before .before .before
 
+abbrev at-lent : tie.After-look-on → tie.After-look-on-arg3
+at-lent c = c .before .before .before .before
+
 abbrev at-onto : tie.After-look-on → tie.After-meeting-of2
-at-onto c = c .before .before .before .before .before .before .before .before
+at-onto c = at-lent c .before .before .before .before
 
 abbrev at-look : tie.After-step → tie.After-look-on
 at-look c = c .before

@@ -41,7 +41,8 @@ at-number c = c .before .before .before
 abbrev at-put : tie.After-slice-known2 Inv-loop μ-loop → tie.After-put Inv-loop μ-loop
 at-put c = c .before .before
 
--- in a call's arm the call, what it names, what its process meets of the two files, the look, the step, the last write and the answer
+-- in a call's arm the call, what it names, what its process meets of the two files, the setup's tables lent, the look, the step,
+-- the last write and the answer
 abbrev at-decode : tie.After-call Inv-loop μ-loop → tie.After-decode-at Inv-loop μ-loop
 at-decode c = c .before .before
 
@@ -60,8 +61,11 @@ at-named c = c .before .before .before .before
 abbrev at-from : tie.After-meeting-of2 Inv-loop μ-loop → tie.After-meeting-of Inv-loop μ-loop
 at-from c = c .before .before .before .before
 
+abbrev at-lent : tie.After-look-on Inv-loop μ-loop → tie.After-look-on-arg3 Inv-loop μ-loop
+at-lent c = c .before .before .before .before
+
 abbrev at-onto : tie.After-look-on Inv-loop μ-loop → tie.After-meeting-of2 Inv-loop μ-loop
-at-onto c = c .before .before .before .before .before .before .before .before
+at-onto c = at-lent c .before .before .before .before
 
 abbrev at-look : tie.After-step Inv-loop μ-loop → tie.After-look-on Inv-loop μ-loop
 at-look c = c .before
