@@ -71,7 +71,7 @@ pub const KIND_NO: u32 = 3;
 
 pub const KIND_REFUSED: u32 = 4;
 
-// The kind of a list that was run or a text that was read, and the kinds of a route report.
+// The kind of a list that was run, a text that was read or a grid that was filled, and the kinds of a route report.
 pub const KIND_DONE: u32 = 0;
 
 pub const KIND_NO_ROUTE: u32 = 0;

@@ -1,0 +1,9 @@
+// The grid: the number of links from every desk to every desk at once.
+pub mod filling;
+pub mod grid;
+
+// How many numbers were filled in, or the refusal.
+pub enum GridAnswer {
+    Filled(u32),
+    Refused(u32),
+}
