@@ -333,6 +333,12 @@ static void make_full(dw_setup *s)
     memset(s->rights, DW_RW, sizeof s->rights);
 }
 
+static void make_bare(dw_setup *s)
+{
+    make_line(s);
+    memset(s->rights, DW_NONE, sizeof s->rights);
+}
+
 static double route_time(const dw_setup *s, uint32_t a, uint32_t b, int ours, uint32_t *room, dw_answer *answer)
 {
     double began = now();
@@ -363,6 +369,127 @@ static void measure_route(const char *name, void make(dw_setup *), uint32_t a, u
     peer_time = median(peer_times);
     printf("%-32s %10.1f %10.1f %8.2f %9u calls\n", name, our_time, peer_time, our_time / peer_time,
            our.kind == DW_ROUTE ? our.value : 0);
+}
+
+/* ---- Grids, on the largest setups, by the library, by the peer, and by a report for each two desks, all by turns. */
+
+/* Longer than any grid, since what lies past one is to keep its values. */
+enum { GRID_ROOM = DW_GRID_NUMBERS + DW_DESKS, ANY_SETUPS = 1000 };
+
+typedef dw_answer grid(const dw_setup *s, uint32_t *room, size_t room_len);
+
+static dw_answer our_grid(const dw_setup *s, uint32_t *room, size_t room_len)
+{
+    return dw_grid(*s, room, room_len);
+}
+
+/* How many links the route has that a report wrote. */
+static uint32_t links_shown(dw_answer report)
+{
+    return report.kind == DW_ROUTE ? (report.value - DW_ROUTE_CALLS(0)) / (DW_ROUTE_CALLS(1) - DW_ROUTE_CALLS(0)) : 0;
+}
+
+/* What a host does without dw_grid. It judges nothing: its setups are sound, and room is always enough. */
+static dw_answer reported_grid(const dw_setup *s, uint32_t *room, size_t room_len)
+{
+    uint32_t list[DW_ROUTE_NUMBERS];
+    dw_answer done = {DW_DONE, s->desks * s->desks};
+
+    (void)room_len;
+    for (uint32_t a = 0; a < s->desks; a++)
+        for (uint32_t b = 0; b < s->desks; b++)
+            room[DW_GRID_AT(s->desks, a, b)] = a == b ? 0 : links_shown(dw_route(*s, a, b, list, DW_ROUTE_NUMBERS));
+    return done;
+}
+
+/* The single reports take so long that once is enough for the clock. */
+enum { OURS, PEERS, REPORTED, WAYS };
+static const struct {
+    grid *fill;
+    int times;
+} ways[WAYS] = {{our_grid, REPORTS}, {peer_grid, REPORTS}, {reported_grid, 1}};
+
+static uint32_t grids[WAYS][GRID_ROOM];
+static dw_answer grid_answers[WAYS];
+
+/* The time of one grid in microseconds, with the answer and the whole room left for comparing. */
+static double grid_time(int way, const dw_setup *s, size_t room_len)
+{
+    double began;
+
+    memset(grids[way], 0xFF, sizeof grids[way]);
+    began = now();
+    for (int i = 0; i < ways[way].times; i++)
+        grid_answers[way] = ways[way].fill(s, grids[way], room_len);
+    return (now() - began) / ways[way].times;
+}
+
+static void compare_grid(int way)
+{
+    differs |= memcmp(&grid_answers[way], &grid_answers[OURS], sizeof grid_answers[way]) != 0;
+    differs |= memcmp(grids[way], grids[OURS], sizeof grids[way]) != 0;
+}
+
+static void measure_grid(const char *name, void make(dw_setup *))
+{
+    static double times[WAYS][RUNS];
+    double medians[WAYS];
+    dw_setup s;
+
+    make(&s);
+    for (int i = 0; i < RUNS; i++)
+        for (int way = 0; way < WAYS; way++) {
+            times[way][i] = grid_time(way, &s, GRID_ROOM);
+            compare_grid(way);
+        }
+    for (int way = 0; way < WAYS; way++)
+        medians[way] = median(times[way]);
+    printf("%-32s %10.1f %10.1f %8.2f %12.1f %8.3f\n", name, medians[OURS], medians[PEERS], medians[OURS] / medians[PEERS],
+           medians[REPORTED], medians[OURS] / medians[REPORTED]);
+}
+
+/* Any counts, and few rights, so that some desks are many links apart. */
+static void make_any(dw_setup *s)
+{
+    memset(s, 0, sizeof *s);
+    s->desks = 1 + below(DW_DESKS);
+    s->classes = 1 + below(DW_CLASSES);
+    s->processes = 1 + below(DW_PROCESSES);
+    s->files = 1 + below(DW_FILES);
+    for (uint32_t d = 0; d < s->desks; d++)
+        for (uint32_t t = 0; t < s->classes; t++)
+            s->rights[d * DW_CLASSES + t] = (uint8_t)(below(4) == 0 ? below(DW_RW + 1) : DW_NONE);
+    for (uint32_t p = 0; p < s->processes; p++)
+        s->desk_of[p] = (uint8_t)below(s->desks);
+    for (uint32_t f = 0; f < s->files; f++)
+        s->class_of[f] = (uint8_t)below(s->classes);
+}
+
+/* On the largest setups every row is as long as it can be, and nothing is refused. So other setups are compared too, with
+ * room that is large, just enough or a number short. One in four has a bit changed, after which most are no setups. */
+static void compare_any_grids(void)
+{
+    for (int i = 0; i < ANY_SETUPS; i++) {
+        dw_setup s;
+        size_t room_len;
+
+        make_any(&s);
+        room_len = i % 2 == 0 ? GRID_ROOM : s.desks * s.desks - below(2);
+        if (below(4) == 0)
+            ((uint8_t *)&s)[below(sizeof s)] ^= (uint8_t)(1u << below(8));
+        grid_time(OURS, &s, room_len);
+        grid_time(PEERS, &s, room_len);
+        compare_grid(PEERS);
+    }
+}
+
+static void measure_grids(void)
+{
+    printf("%-32s %10s %10s %8s %12s %8s\n", "", "library", "peer", "ratio", "240 reports", "ratio");
+    measure_grid("grid, 16 desks in a line", make_line);
+    measure_grid("grid, all rights set", make_full);
+    measure_grid("grid, no rights", make_bare);
+    compare_any_grids();
 }
 
 /* ---- Texts: as large as the program takes, but for a few bytes. */
@@ -530,6 +657,7 @@ int main(void)
     measure_route("route, all rights set", make_full, 0, DW_DESKS - 1);
     measure_route("route at once, beside a line", make_shortcut, 0, DW_DESKS - 1);
     measure_text();
+    measure_grids();
     if (went * 2 < DW_CALLS) {
         printf("FAILED: fewer than half of the calls go through\n");
         return 1;

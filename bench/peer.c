@@ -194,7 +194,7 @@ dw_answer peer_run(const dw_setup *setup, dw_store *store, const uint32_t *calls
 
 /* ---- The route report: a breadth-first search back from b, then a walk forward from a. */
 
-/* What one report works with: each desk's first process, and how many links it stands from b. */
+/* What one report works with: each desk's first process, and for a route how many links it stands from b. */
 struct search {
     const dw_setup *s;
     uint32_t first[DW_DESKS];
@@ -220,11 +220,14 @@ static uint32_t file_for(const dw_setup *s, uint32_t d, uint32_t e)
     return s->files;
 }
 
+static int has_process(const struct search *r, uint32_t d)
+{
+    return r->first[d] < r->s->processes;
+}
+
 static int linked(const struct search *r, uint32_t d, uint32_t e)
 {
-    const dw_setup *s = r->s;
-
-    return r->first[d] < s->processes && r->first[e] < s->processes && file_for(s, d, e) < s->files;
+    return has_process(r, d) && has_process(r, e) && file_for(r->s, d, e) < r->s->files;
 }
 
 /* Ends as soon as a is reached: every desk nearer to b is known by then. */
@@ -309,4 +312,68 @@ dw_answer peer_route(const dw_setup *setup, uint32_t a, uint32_t b, uint32_t *ro
         return answer(DW_NO_ROUTE, 0);
     write_list(&r, a, b, room);
     return answer(DW_ROUTE, DW_ROUTE_CALLS(r.links[a]));
+}
+
+/* ---- The grid: all links once, as a table, then a breadth-first search forward from each desk over it. */
+
+typedef uint8_t link_table[DW_DESKS][DW_DESKS];
+
+/* 1 if d may write and e may read some class that has a file, else 0. It does not stop at the first, nor inside a class: so
+ * the compiler takes all classes at once. */
+static uint8_t served(const dw_setup *s, const uint8_t *has_file, uint32_t d, uint32_t e)
+{
+    const uint8_t *of_d = s->rights + d * DW_CLASSES, *of_e = s->rights + e * DW_CLASSES;
+    uint8_t any = 0;
+
+    for (uint32_t t = 0; t < DW_CLASSES; t++)
+        any |= has_file[t] & ((of_d[t] & DW_W) != 0) & ((of_e[t] & DW_R) != 0);
+    return any;
+}
+
+static void find_links(const struct search *r, link_table links)
+{
+    const dw_setup *s = r->s;
+    uint8_t has_file[DW_CLASSES] = {0};
+
+    for (uint32_t f = 0; f < s->files; f++)
+        has_file[s->class_of[f]] = 1;
+    for (uint32_t d = 0; d < s->desks; d++)
+        for (uint32_t e = 0; e < s->desks; e++)
+            links[d][e] = has_process(r, d) && has_process(r, e) && served(s, has_file, d, e);
+}
+
+/* Fills the row of desk a. A 0 stands for a desk not reached yet. Ends as soon as every desk is reached. */
+static void search_from(const link_table links, uint32_t desks, uint32_t a, uint32_t *row)
+{
+    uint32_t queue[DW_DESKS], head = 0, tail = 0;
+
+    for (uint32_t e = 0; e < desks; e++)
+        row[e] = 0;
+    queue[tail++] = a;
+    while (head < tail && tail < desks) {
+        uint32_t d = queue[head++];
+
+        for (uint32_t e = 0; e < desks; e++) {
+            if (!links[d][e] || row[e] != 0 || e == a)
+                continue;
+            row[e] = row[d] + 1;
+            queue[tail++] = e;
+        }
+    }
+}
+
+dw_answer peer_grid(const dw_setup *setup, uint32_t *room, size_t room_len)
+{
+    struct search r = {.s = setup};
+    link_table links;
+
+    if (!accepted(setup))
+        return answer(DW_REFUSED, DW_REFUSAL_SETUP);
+    if (room_len < setup->desks * setup->desks)
+        return answer(DW_REFUSED, DW_REFUSAL_ROOM);
+    find_firsts(&r);
+    find_links(&r, links);
+    for (uint32_t a = 0; a < setup->desks; a++)
+        search_from(links, setup->desks, a, room + DW_GRID_AT(setup->desks, a, 0));
+    return answer(DW_DONE, setup->desks * setup->desks);
 }

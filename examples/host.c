@@ -1,5 +1,6 @@
 /* A host in C: accepts a setup, keeps one store in its memory, and lends it for nine calls. They carry a figure from desk 0
- * over desk 1 to desk 2, which has no right on the file that desk 0 writes. Then it asks for the routes between the desks.
+ * over desk 1 to desk 2, which has no right on the file that desk 0 writes. Then it asks for routes between the desks, and
+ * for the number of links from every desk to every desk at once.
  *
  * bin/host-example builds and runs it. With a C compiler on x86-64 Linux, after `rt staticlib dirgewater`:
  *     cc -Iinclude examples/host.c target/staticlib/libdirgewater.a -o host && ./host
@@ -58,6 +59,24 @@ static void print_route(dw_setup setup, uint32_t a, uint32_t b)
         printf("route\t%u\t%u\trefused\t%u\n", a, b, answer.value);
 }
 
+/* A row for each desk that is heard; 0 stands for no route and for the desk itself. */
+static void print_grid(dw_setup setup)
+{
+    static uint32_t room[DW_GRID_NUMBERS];
+    dw_answer answer = dw_grid(setup, room, DW_GRID_NUMBERS);
+
+    if (answer.kind != DW_DONE) {
+        printf("links\trefused\t%u\n", answer.value);
+        return;
+    }
+    for (uint32_t a = 0; a < setup.desks; a++) {
+        printf("links from desk %u", a);
+        for (uint32_t b = 0; b < setup.desks; b++)
+            printf("\t%u", room[DW_GRID_AT(setup.desks, a, b)]);
+        printf("\n");
+    }
+}
+
 int main(void)
 {
     dw_given_setup accepted = dw_accept(3, 2, 3, 2, rights, sizeof rights, desk_of, sizeof desk_of,
@@ -82,5 +101,6 @@ int main(void)
     print_route(accepted.setup, 0, 2);
     print_route(accepted.setup, 2, 0);
     print_route(accepted.setup, 1, 1);
+    print_grid(accepted.setup);
     return 0;
 }

@@ -53,7 +53,7 @@ extern "C" {
 
 /* The version of this header. It goes up when a struct, a function or a meaning changes; a library is built with the
  * header that it comes with. */
-#define DW_VERSION 1
+#define DW_VERSION 2
 
 /* ---- Sizes: the most of each thing. There is at least one of each, but a list of calls may be empty. */
 
@@ -81,6 +81,11 @@ extern "C" {
  * every list: 61 calls, 244 numbers. */
 #define DW_ROUTE_CALLS(links) (4 * (links) + 1)
 #define DW_ROUTE_NUMBERS (DW_ROUTE_CALLS(DW_DESKS - 1) * DW_CALL_WIDTH)
+
+/* A grid has a number for each desk a that is heard and each desk b that hears it; where the number lies goes by the setup's
+ * own number of desks. Then room for every grid. */
+#define DW_GRID_AT(desks, a, b) ((a) * (desks) + (b))
+#define DW_GRID_NUMBERS (DW_DESKS * DW_DESKS)
 
 /* ---- Rights, calls, answers. */
 
@@ -111,8 +116,8 @@ extern "C" {
 #define DW_NO 3      /* value 0 */
 #define DW_REFUSED 4 /* value: the refusal's number */
 
-/* What becomes of a list or of a text, as a kind; DW_REFUSED is one too. It is no DW_NOTHING: its value counts calls. */
-#define DW_DONE 0 /* value: the number of calls run, or read */
+/* What becomes of a list, of a text or of a grid, as a kind; DW_REFUSED is one too. It is no DW_NOTHING: its value is a count. */
+#define DW_DONE 0 /* value: the number of calls run, or read, or of the grid's numbers written */
 
 /* What the route report answers, as a kind; DW_REFUSED is one too. */
 #define DW_NO_ROUTE 0 /* value 0 */
@@ -132,7 +137,8 @@ extern "C" {
 #define DW_REFUSAL_LENGTH 10      /* the lengths of a setup's runs do not match its counts; or a list's length is
                                      not a multiple of DW_CALL_WIDTH, or is above DW_CALL_NUMBERS */
 #define DW_REFUSAL_ROOM 11        /* room for answers shorter than two numbers a call; or room for a route below
-                                     DW_ROUTE_NUMBERS; or room for the calls of a text below DW_CALL_NUMBERS */
+                                     DW_ROUTE_NUMBERS; or room for the calls of a text below DW_CALL_NUMBERS; or room
+                                     for a grid shorter than the number of desks times itself */
 #define DW_REFUSAL_ROUTE_DESK 12  /* a route desk is the number of desks or more */
 #define DW_REFUSAL_SAME_DESK 13   /* the two route desks are equal */
 #define DW_REFUSAL_LINE 14        /* a text breaks the line rules */
@@ -244,6 +250,14 @@ dw_listed dw_run(dw_setup setup, dw_store store, const uint32_t *calls, size_t c
  * it, LOCK of the next, COPY, UNLOCK; b's OPEN and READ. What lies past the list keeps its values.
  * Refusals, in this order: 15, 12, 13, 11. A refusal, and DW_NO_ROUTE, write nothing. */
 dw_answer dw_route(dw_setup setup, uint32_t a, uint32_t b, uint32_t *room, size_t room_len);
+
+/* The number of links from every desk to every desk at once. With D the setup's own number of desks, D * D numbers fill the
+ * front of room, and the one for a and b lies at DW_GRID_AT(D, a, b): 0 where a is b, and where there is no route from a to b,
+ * which is where b can never hear a; else the number k of links, above 0, of the chain that dw_route takes from a to b and
+ * shows by DW_ROUTE_CALLS(k) calls. What lies past them keeps its values. Answers DW_DONE and D * D. Room of D * D numbers
+ * is asked for; DW_GRID_NUMBERS are enough for every setup.
+ * Refusals, in this order: 15, 11. A refusal writes nothing. */
+dw_answer dw_grid(dw_setup setup, uint32_t *room, size_t room_len);
 
 /* A setup text, of any bytes. Its lines end with LF, the last too, their fields are parted by one tab, numbers
  * are decimal, with no sign, no leading zero but for 0 itself, and at most 4294967295. Its lines:

@@ -1,7 +1,8 @@
-"""Holds the route report to the information flows that SETools finds: flows.py PROGRAM [SEED], from the root.
+"""Holds the route report, and the grid, to the information flows that SETools finds.
 
+Usage: flows.py PROGRAM [SEED], from the root; PROGRAM is tests/routes.c, built.
 Each setup has a process at every desk and a file of every class. Its rights, as the allow statements of a policy, give
-SETools the flows desk, class, desk; two steps are a link. PROGRAM is tests/routes.c, built.
+SETools the flows desk, class, desk; two steps are a link.
 Its last line is 'N passed, M failed'.
 """
 import collections
@@ -39,6 +40,9 @@ PERMISSIONS = {R: 'read', W: 'write', R | W: '{ read write }'}
 
 # Rights go by desk and class; a pair that is not there has none.
 Setup = collections.namedtuple('Setup', 'desks classes rights desk_of class_of')
+
+# What the program says of a setup, in the order of its lines.
+Said = collections.namedtuple('Said', 'report grid')
 
 
 # ---- Setups.
@@ -103,18 +107,28 @@ def all_setups(rng):
         make(rng) for make, count in ((mixed, MIXED), (sparse, SPARSE), (bent, BENT)) for _ in range(count)]
 
 
-# ---- The two answers: for each pair of desks the links, 0 for none.
+# ---- The answers: for each pair of desks the links, 0 for none.
 
-def reported(program, setups):
-    """What the report says of each setup, all in one run, since a program is slow to start under an emulator."""
+def lines_of(program, setups):
+    """What the program says of all setups, in one run, since a program is slow to start under an emulator."""
     text = ''
     for s in setups:
         rights = [s.rights.get(place, 0) for place in itertools.product(range(s.desks), range(s.classes))]
         counts = [s.desks, s.classes, len(s.desk_of), len(s.class_of)]
         text += ' '.join(map(str, counts + rights + s.desk_of + s.class_of)) + '\n'
     said = subprocess.run([*RUN, program], input=text, stdout=subprocess.PIPE, text=True, check=True).stdout
-    return [dict(zip(itertools.permutations(range(s.desks), 2), map(int, numbers.split()), strict=True))
-            for s, numbers in zip(setups, said.splitlines(), strict=True)]
+    return said.splitlines()
+
+
+def by_pair(pairs, numbers):
+    return dict(zip(pairs, map(int, numbers.split()), strict=True))
+
+
+def said_of(setups, lines):
+    """What the report and the grid say of each setup; the grid has each desk with itself too."""
+    return [Said(by_pair(itertools.permutations(range(s.desks), 2), report),
+                 by_pair(itertools.product(range(s.desks), repeat=2), grid))
+            for s, report, grid in zip(setups, lines[::2], lines[1::2], strict=True)]
 
 
 def policy_of(setup):
@@ -146,10 +160,19 @@ def flowing(room, setup):
     return found
 
 
+def unlike(said, flows):
+    """Each of the two that differs from SETools, with the pairs that it differs on: its links, and those due.
+
+    SETools is asked for no flow from a desk to itself; 0 is due there."""
+    due = {**flows, **{(desk, desk): 0 for desk, _ in flows}}
+    found = {name: {pair: (links, due[pair]) for pair, links in numbers.items() if links != due[pair]}
+             for name, numbers in said._asdict().items()}
+    return {name: pairs for name, pairs in found.items() if pairs}
+
+
 def differences(program, room, setup, spoil=lambda setup: setup):
-    """The pairs that the report and SETools differ on, with both numbers; the policy can be of another setup."""
-    report, flows = reported(program, [setup])[0], flowing(room, spoil(setup))
-    return {pair: (report[pair], flows[pair]) for pair in report if report[pair] != flows[pair]}
+    """What is unlike for a setup; the policy can be of another."""
+    return unlike(*said_of([setup], lines_of(program, [setup])), flowing(room, spoil(setup)))
 
 
 # ---- What is shown of a difference.
@@ -160,7 +183,7 @@ def without(setup, place, right):
 
 
 def cut_down(differ, setup):
-    """Drops one right after the other, as long as the two still differ."""
+    """Drops one right after the other, as long as there is still a difference."""
     for place, right in itertools.product(setup.rights, (R, W)):
         less = without(setup, place, right)
         if less != setup and differ(less):
@@ -168,47 +191,80 @@ def cut_down(differ, setup):
     return setup
 
 
-def show(program, room, setup):
-    least = cut_down(lambda less: differences(program, room, less), setup)
-    print(f'setools: the first setup that differs, cut down: {least.desks} desks, {least.classes} classes')
+def show(program, room, name, setup):
+    least = cut_down(lambda less: name in differences(program, room, less), setup)
+    print(f'setools: the first setup that the {name} differs on, cut down:')
+    print(f'    {least.desks} desks, {least.classes} classes')
     print(f'    desks of the processes {least.desk_of}, classes of the files {least.class_of}')
     for (desk, kind), right in least.rights.items():
         print(f'    desk {desk} on class {kind}: {PERMISSIONS[right]}')
-    for (a, b), (report, flow) in differences(program, room, least).items():
-        print(f'    from desk {a} to desk {b}: the report has {report} links, SETools {flow}; 0 is no route')
+    for (a, b), (links, due) in differences(program, room, least)[name].items():
+        print(f'    from desk {a} to desk {b}: the {name} has {links} links and not {due}; 0 is no route, -1 no answer')
 
 
 # ---- The checks: each one's text, and whether it holds.
 
 def agree(program, room, setups):
-    counts, unlike = collections.Counter(), []
-    for setup, report in zip(setups, reported(program, setups), strict=True):
+    counts, differing = collections.Counter(), {name: [] for name in Said._fields}
+    for setup, said in zip(setups, said_of(setups, lines_of(program, setups)), strict=True):
         flows = flowing(room, setup)
         counts.update(flows.values())
-        if flows != report:
-            unlike.append(setup)
-    if unlike:
-        show(program, room, unlike[0])
-    yield f'{len(setups)} setups, {sum(counts.values())} pairs of desks: {len(unlike)} setups differ', not unlike
+        for name in unlike(said, flows):
+            differing[name].append(setup)
+    pairs = f'{len(setups)} setups, {sum(counts.values())} pairs of desks'
+    for name, some in differing.items():
+        if some:
+            show(program, room, name, some[0])
+        yield f'{pairs}: the {name} differs on {len(some)} setups', not some
     few = [links for links in range(DESKS) if counts[links] < LEAST[links]]
     text = ', '.join(f'{links}: {counts[links]}' for links in range(DESKS))
     yield f'pairs by links, 0 for no route: {text}' + (f'; too few of {few}' if few else ''), not few
 
 
-def see(program, room, rng):
+def seen_twice(program, room, setup, spoil):
+    """How many pairs the report differs on, and the grid too, where the policy is of another setup."""
+    found = differences(program, room, setup, spoil)
+    return len(found.get('report', {}).keys() & found.get('grid', {}).keys())
+
+
+def see_policies(program, room, whole):
     """A policy that is not the setup's must be seen, and be cut down to the one link that it is about."""
-    whole = line(rng, EYED)
     (first, _), *_, (_, last) = whole.rights  # in the order of the chain, each R or W alone
     drops = [functools.partial(without, place=place, right=right) for place, right in whole.rights.items()]
-    seen = sum(bool(differences(program, room, whole, drop)) for drop in drops)
+    seen = sum(seen_twice(program, room, whole, drop) > 0 for drop in drops)
     yield f'with a right of a chain dropped from the policy, {seen} of {len(drops)} seen', seen == len(drops)
-    added = differences(program, room, whole, lambda s: s._replace(rights={**s.rights, (first, last): W}))
-    yield f'with a right added that shortens the chain, {len(added)} pairs seen', len(added) > 0
-    turned = differences(program, room, whole, lambda s: s._replace(rights={k: R + W - v for k, v in s.rights.items()}))
-    yield f'with reads for writes and writes for reads, {len(turned)} pairs seen', len(turned) > 0
-    least = cut_down(lambda less: differences(program, room, less, drops[0]), whole).rights
+    added = seen_twice(program, room, whole, lambda s: s._replace(rights={**s.rights, (first, last): W}))
+    yield f'with a right added that shortens the chain, {added} pairs seen', added > 0
+    turned = seen_twice(program, room, whole, lambda s: s._replace(rights={k: R + W - v for k, v in s.rights.items()}))
+    yield f'with reads for writes and writes for reads, {turned} pairs seen', turned > 0
+    least = cut_down(lambda less: seen_twice(program, room, less, drops[0]), whole).rights
     alone = len({kind for _, kind in least}) == 1 and sorted(least.values()) == [R, W]
     yield f'with a right dropped, the setup is cut down to {len(least)} rights', alone
+
+
+def spoilt(lines, at):
+    """Each way to have one link more in one place of one line."""
+    numbers = lines[at].split()
+    for place, number in enumerate(numbers):
+        other = [*numbers[:place], str(int(number) + 1), *numbers[place + 1:]]
+        yield [*lines[:at], ' '.join(other), *lines[at + 1:]]
+
+
+def see_numbers(program, room, whole):
+    """A number of the report or of the grid that is not the program's must be seen, and in that one of them alone."""
+    lines, flows = lines_of(program, [whole]), flowing(room, whole)
+    was = unlike(*said_of([whole], lines), flows)
+    for at, name in enumerate(Said._fields):
+        now = [unlike(*said_of([whole], other), flows) for other in spoilt(lines, at)]
+        moved = [[some for some in Said._fields if found.get(some) != was.get(some)] for found in now]
+        seen = moved.count([name])
+        yield f'with a link more in the {name} alone, {seen} of {len(now)} seen there alone', 0 < seen == len(now)
+
+
+def see(program, room, rng):
+    whole = line(rng, EYED)
+    yield from see_policies(program, room, whole)
+    yield from see_numbers(program, room, whole)
 
 
 def main(program, seed=SEED):

@@ -756,6 +756,17 @@ static dw_setup trial_setup(void)
     return s;
 }
 
+/* The run that starts here has these numbers in front, and all the rest of the room is as it was made. */
+static void room_has(const uint32_t *at, const uint32_t *expected, uint32_t len)
+{
+    uint32_t from = (uint32_t)(at - room.numbers);
+
+    CHECK(memcmp(at, expected, len * sizeof at[0]) == 0);
+    room_is_untouched(0, from);
+    room_is_untouched(from + len, CALLS_LEN);
+    guards_stand();
+}
+
 /* The report writes the list and not a number more; with len of 0 expected it writes nothing. */
 static void route_is(dw_setup s, uint32_t a, uint32_t b, size_t room_len, uint32_t kind, uint32_t value,
                      const uint32_t *expected, uint32_t len)
@@ -764,10 +775,7 @@ static void route_is(dw_setup s, uint32_t a, uint32_t b, size_t room_len, uint32
 
     make_room();
     CHECK(is_answer(dw_route(s, a, b, at, room_len), kind, value));
-    CHECK(memcmp(at, expected, len * sizeof at[0]) == 0);
-    room_is_untouched(0, (uint32_t)(at - room.numbers));
-    room_is_untouched((uint32_t)(at - room.numbers) + len, CALLS_LEN);
-    guards_stand();
+    room_has(at, expected, len);
 }
 
 /* Cases 9, 10 and 11 of document 01, and the other refusals in their order. */
@@ -789,6 +797,117 @@ static void routes_keep_to_their_room(void)
     route_is(s, 0, 2, DW_ROUTE_NUMBERS - 1, DW_REFUSED, DW_REFUSAL_ROOM, one_link, 0);
     s.class_of[2] = 1;
     route_is(s, 3, 3, 0, DW_REFUSED, DW_REFUSAL_SETUP, one_link, 0);
+}
+
+/* ---- Grids. */
+
+_Static_assert(DW_GRID_AT(DW_DESKS, DW_DESKS - 1, DW_DESKS - 1) == DW_GRID_NUMBERS - 1, "the last of the most numbers");
+_Static_assert(DW_DESKS <= DW_CLASSES && DW_DESKS <= DW_PROCESSES && DW_DESKS <= DW_FILES, "a ring can have all desks");
+
+/* Desk 3 writes to 0, 0 to 4, and 4 to 1 and back to 0. Desk 2 would stand between 0 and 1, but it has no process; 1 would
+ * write to 3, but by class 3, which has no file. */
+static const dw_setup five_desks = {
+    .desks = 5,
+    .classes = 4,
+    .processes = 5,
+    .files = 3,
+    .rights = {[0 * DW_CLASSES] = DW_R,    DW_W,    DW_R,    DW_NONE,
+               [1 * DW_CLASSES] = DW_NONE, DW_NONE, DW_R,    DW_W,
+               [2 * DW_CLASSES] = DW_NONE, DW_R,    DW_W,    DW_NONE,
+               [3 * DW_CLASSES] = DW_W,    DW_NONE, DW_NONE, DW_R,
+               [4 * DW_CLASSES] = DW_NONE, DW_R,    DW_W,    DW_NONE},
+    .desk_of = {4, 0, 3, 1, 4},
+    .class_of = {2, 0, 1},
+};
+
+/* A row for each desk that is heard; with a column for each it would be another grid. */
+static const uint32_t five_links[] = {0, 2, 0, 0, 1,
+                                      0, 0, 0, 0, 0,
+                                      0, 0, 0, 0, 0,
+                                      1, 3, 0, 0, 2,
+                                      1, 1, 0, 0, 0};
+
+enum { FIVE_LEN = LEN(five_links) };
+
+/* Each desk writes to the next, by a class that no other has, and the last one to the first. */
+static dw_setup ring_setup(uint32_t desks)
+{
+    dw_setup s;
+
+    memset(&s, 0, sizeof s);
+    s.desks = s.classes = s.processes = s.files = desks;
+    for (uint32_t d = 0; d < desks; d++) {
+        s.rights[d * DW_CLASSES + d] |= DW_W;
+        s.rights[(d + 1) % desks * DW_CLASSES + d] |= DW_R;
+        s.desk_of[d] = s.class_of[d] = (uint8_t)d;
+    }
+    return s;
+}
+
+/* Its numbers go to the front of the room and no further. */
+static void grid_is(dw_setup s, size_t room_len, const uint32_t *links, uint32_t len)
+{
+    uint32_t *at = last_numbers(&room, room_len);
+
+    make_room();
+    CHECK(is_answer(dw_grid(s, at, room_len), DW_DONE, len));
+    room_has(at, links, len);
+}
+
+static void grid_is_refused(dw_setup s, size_t room_len, uint32_t refusal)
+{
+    make_room();
+    CHECK(is_answer(dw_grid(s, last_numbers(&room, room_len), room_len), DW_REFUSED, refusal));
+    room_is_untouched(0, CALLS_LEN);
+    guards_stand();
+}
+
+/* It is a link for each step forward; the way all round, to the desk itself, is not told. The least room is counted in
+ * numbers, and one less is refused. */
+static void ring_is_counted(uint32_t desks)
+{
+    dw_setup s = ring_setup(desks);
+    uint32_t links[DW_GRID_NUMBERS], len = desks * desks;
+
+    for (uint32_t a = 0; a < desks; a++)
+        for (uint32_t b = 0; b < desks; b++)
+            links[DW_GRID_AT(desks, a, b)] = (b + desks - a) % desks;
+    grid_is(s, len, links, len);
+    grid_is(s, DW_GRID_NUMBERS, links, len);
+    grid_is_refused(s, len - 1, DW_REFUSAL_ROOM);
+}
+
+/* A row is as long as the setup has desks, so that rows as long as the most would be seen with each lesser number. */
+static void grids_keep_to_their_room(void)
+{
+    grid_is(five_desks, FIVE_LEN, five_links, FIVE_LEN);
+    grid_is(five_desks, FIVE_LEN + 1, five_links, FIVE_LEN);
+    grid_is(five_desks, DW_GRID_NUMBERS, five_links, FIVE_LEN);
+    grid_is(five_desks, CALLS_LEN, five_links, FIVE_LEN);
+    for (uint32_t desks = 1; desks <= DW_DESKS; desks++)
+        ring_is_counted(desks);
+}
+
+/* A setup is refused before the room, whether that is long enough or not. An unsound number of desks comes with room of its
+ * square, which is 0 in 32 bits for the greatest of them. */
+static void refused_grids_write_nothing(void)
+{
+    enum { TOO_MANY = DW_DESKS + 1 };
+    dw_setup s = five_desks;
+
+    grid_is_refused(s, FIVE_LEN - 1, DW_REFUSAL_ROOM);
+    grid_is_refused(s, 0, DW_REFUSAL_ROOM);
+    s.class_of[3] = 1;
+    grid_is_refused(s, FIVE_LEN, DW_REFUSAL_SETUP);
+    grid_is_refused(s, FIVE_LEN - 1, DW_REFUSAL_SETUP);
+    grid_is_refused(s, 0, DW_REFUSAL_SETUP);
+    s = five_desks;
+    s.desks = 0;
+    grid_is_refused(s, 0, DW_REFUSAL_SETUP);
+    s.desks = TOO_MANY;
+    grid_is_refused(s, TOO_MANY * TOO_MANY, DW_REFUSAL_SETUP);
+    s.desks = 0x10000u;
+    grid_is_refused(s, 0, DW_REFUSAL_SETUP);
 }
 
 /* ---- Texts. The trial setup and two calls, with a guard right past the last byte. */
@@ -893,6 +1012,8 @@ static const struct group {
     {"a list keeps to its room", lists_keep_to_their_room},
     {"a refused list writes nothing", refused_lists_write_nothing},
     {"a route keeps to its room", routes_keep_to_their_room},
+    {"a grid keeps to its room", grids_keep_to_their_room},
+    {"a refused grid writes nothing", refused_grids_write_nothing},
     {"a setup text is read alone", setups_are_read},
     {"a text's calls keep to their room", texts_keep_to_their_room},
 };

@@ -1,8 +1,9 @@
-/* What the route report says of many setups: for each pair of desks, the number of links from one to the other.
+/* What the route report and the grid say of many setups: for each pair of desks, the number of links from one to the
+ * other.
  *
  * Standard input has setups as numbers: the four counts, the rights row by desk, the desk of each process, the class of
- * each file. Each gives one line of output: for each desk, and then each other desk, the links between them, 0 for no
- * route, -1 where the report answers neither. */
+ * each file. Each gives two lines of output, the report's and the grid's: for each desk, and then each other desk, the
+ * links between them, 0 for no route, -1 where it tells neither. The grid's line has each desk with itself too. */
 #include <stdio.h>
 
 #include "dirgewater.h"
@@ -53,6 +54,33 @@ static int links(dw_setup setup, uint32_t from, uint32_t to)
     return -1;
 }
 
+static void print_report(dw_setup setup)
+{
+    for (uint32_t from = 0; from < setup.desks; from++)
+        for (uint32_t to = 0; to < setup.desks; to++)
+            if (from != to)
+                printf("%d ", links(setup, from, to));
+    printf("\n");
+}
+
+/* The room starts with numbers that no chain has, so that one left out is seen. */
+static void print_grid(dw_setup setup)
+{
+    uint32_t room[DW_GRID_NUMBERS], count = setup.desks * setup.desks;
+    dw_answer said;
+
+    for (uint32_t i = 0; i < count; i++)
+        room[i] = DW_DESKS;
+    said = dw_grid(setup, room, count);
+    for (uint32_t from = 0; from < setup.desks; from++)
+        for (uint32_t to = 0; to < setup.desks; to++) {
+            uint32_t k = room[DW_GRID_AT(setup.desks, from, to)];
+
+            printf("%d ", said.kind == DW_DONE && said.value == count && k < DW_DESKS ? (int)k : -1);
+        }
+    printf("\n");
+}
+
 int main(void)
 {
     dw_setup setup;
@@ -63,11 +91,8 @@ int main(void)
             printf("no setup\n");
             return 1;
         }
-        for (uint32_t from = 0; from < desks; from++)
-            for (uint32_t to = 0; to < desks; to++)
-                if (from != to)
-                    printf("%d ", links(setup, from, to));
-        printf("\n");
+        print_report(setup);
+        print_grid(setup);
     }
     return 0;
 }

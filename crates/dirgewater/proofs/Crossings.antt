@@ -1,10 +1,15 @@
--- What crosses to C of a text that was read.
+-- What crosses to C of an answer, and of a text that was read.
 -- Assumes nothing.
 use Prim.Native.Nat.{ℕ}
-use mathlib.Core.Path.{_≡_, subst}
+use mathlib.Core.Path.{_≡_, ap, subst, _∙_}
 use Rattle.rules.specs.declared.Setup.{Setup}
 use Rattle.lines.specs.Entries.{textNumbersOf}
 use Rattle.lines.specs.declared.GivenText.{GivenText}
+
+-- the two numbers of an answer are those of one that is the same
+pub numbers-same : {A : Type 0} (numbers : A → ℕ × ℕ) {answer same : A} {kind value : ℕ} → answer ≡ same
+    → (kind ≡ numbers answer .0) × (value ≡ numbers answer .1) → (kind ≡ numbers same .0) × (value ≡ numbers same .1)
+numbers-same {A} numbers e told = (told .0 ∙ ap (λ (x : A). numbers x .0) e, told .1 ∙ ap (λ (x : A). numbers x .1) e)
 
 -- these numbers and this setup are those of a reading
 abbrev pub Crosses : ℕ → ℕ → ℕ → Setup → GivenText → Type 0

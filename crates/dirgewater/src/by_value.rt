@@ -3,6 +3,8 @@ use crate::Numbered;
 use crate::Outcome;
 use crate::as_numbers;
 use crate::call_numbered;
+use grids::GridAnswer;
+use grids::grid::grid;
 use judging::accepting::accept;
 use judging::fitting::fresh;
 use judging::fitting::judge;
@@ -29,6 +31,8 @@ ghost use Rattle.lists.specs.Lists.{listed, answersAfter, listNumbersOf};
 ghost use Rattle.routes.specs.Reports.{routed, routeNumbersOf};
 ghost use Rattle.routes.specs.Reports as route;
 ghost use Rattle.routes.specs.Demand3.{Demand3};
+ghost use Rattle.grids.specs.Grids.{gridded, gridNumbersOf, GridTells};
+ghost use Rattle.grids.specs.Grids as grids;
 
 // Entry: the setup that the counts and the slices give, or their refusal.
 #[no_mangle]
@@ -117,4 +121,25 @@ pub extern "C" fn dw_route(setup: Setup, a: u32, b: u32, room: &mut [u32]) -> Nu
 {
     let answer = report(setup, a, b, room);
     route_numbers_of(answer)
+}
+
+fn grid_numbers_of(answer: GridAnswer) -> Numbered
+    ensures { λ r. ⌜ (r .kind ≡ gridNumbersOf answer .0) × (r .value ≡ gridNumbersOf answer .1) ⌝ }
+{
+    match answer {
+        GridAnswer::Filled(count) => as_numbers(KIND_DONE, count),
+        GridAnswer::Refused(refusal) => as_numbers(KIND_REFUSED, refusal),
+    }
+}
+
+// Entry: the number of links from every desk to every desk at once.
+#[no_mangle]
+pub extern "C" fn dw_grid(setup: Setup, room: &mut [u32]) -> Numbered
+    ensures { λ r. let n = gridNumbersOf (gridded setup (length (now (room .entry)))) in
+        ⌜ (r .kind ≡ n .0) × (r .value ≡ n .1) ⌝ }
+    ensures room { λ _. ⌜ now (room .exit) ≡ grids.roomAfter setup (now (room .entry)) ⌝ }
+    ensures demand3 { λ _. ⌜ GridTells setup (gridded setup (length (now (room .entry)))) (now (room .exit)) ⌝ }
+{
+    let answer = grid(setup, room);
+    grid_numbers_of(answer)
 }
