@@ -12,7 +12,7 @@
 long read(int file, void *to, size_t count);
 long write(int file, const void *from, size_t count);
 
-enum { ACCEPT = 1, FRESH, JUDGE, CALL, CALL_IN_PLACE, LIST, ROUTE, READ_ALONE, READ_WITH_CALLS };
+enum { ACCEPT = 1, FRESH, JUDGE, CALL, CALL_IN_PLACE, LIST, ROUTE, READ_ALONE, READ_WITH_CALLS, GRID };
 
 /* Odd, so that a lent run lies at no rounder address than its type asks. */
 #define GUARD_WORDS 9
@@ -238,6 +238,14 @@ static void do_read_with_calls(void) {
     put_words(&first_words);
 }
 
+static void do_grid(void) {
+    take(&setup, sizeof setup);
+    take_words(&first_words, take_number());
+    dw_answer answer = dw_grid(setup, of_words(&first_words), first_words.len);
+    put(&answer, sizeof answer);
+    put_words(&first_words);
+}
+
 static void do_case(uint32_t kind) {
     switch (kind) {
     case ACCEPT: do_accept(); break;
@@ -249,6 +257,7 @@ static void do_case(uint32_t kind) {
     case ROUTE: do_route(); break;
     case READ_ALONE: do_read_alone(); break;
     case READ_WITH_CALLS: do_read_with_calls(); break;
+    case GRID: do_grid(); break;
     default: broken = 1;
     }
 }

@@ -1,12 +1,14 @@
-//! The twelve cases of document 01 and its program case, with the literals that stand there.
+//! The twelve cases of document 01 and its program case, with the literals that stand there; and the grid of
+//! document 02 over the same setups.
 
 use crate::call::{call_by_value, Answer, Call};
+use crate::grid::grid;
 use crate::list::run;
 use crate::print::sheets;
 use crate::refusal::Refusal;
 use crate::route::{report, Report};
 use crate::rules::{Rules, TURNS};
-use crate::setup::{accept, Setup, SetupBytes};
+use crate::setup::{accept, Setup, SetupBytes, R, W};
 use crate::sizes::{ANSWER_WIDTH, CALL_WIDTH};
 use crate::store::{fresh, Store};
 
@@ -157,6 +159,78 @@ fn program_case() {
     let struck = format!("{PROGRAM}{OTHER_SIX}");
     let output = sheets(RULES, struck.as_bytes());
     assert_eq!(output.lines().last(), Some("5\tfigure\t0"));
+}
+
+/// The grid of Q by hand: a link from 0 to 1, one from 1 to 2, and nothing else.
+const GRID_OF_Q: [u32; 9] = [0, 1, 2, 0, 0, 1, 0, 0, 0];
+
+#[test]
+fn grid_of_q() {
+    let mut room = [UNTOUCHED; GRID_OF_Q.len()];
+    assert_eq!(grid(RULES, &q(), &mut room), Ok(9));
+    assert_eq!(room, GRID_OF_Q);
+    let mut longer = [UNTOUCHED; 256];
+    assert_eq!(grid(RULES, &q(), &mut longer), Ok(9));
+    assert_eq!(longer[..9], GRID_OF_Q);
+    assert!(longer[9..].iter().all(|&number| number == UNTOUCHED));
+}
+
+#[test]
+fn grid_has_the_desk_that_is_heard_by_row() {
+    let mut room = [UNTOUCHED; 4];
+    assert_eq!(grid(RULES, &two_desks(), &mut room), Ok(4));
+    assert_eq!(room, [0, 0, 1, 0]);
+}
+
+/// A line of all desks has every number of links, from each desk to those after it.
+#[test]
+fn grid_of_a_line_of_sixteen_desks() {
+    let (desks, classes) = (16, 15);
+    let right = |desk, class| match class {
+        class if class == desk => W,
+        class if class + 1 == desk => R,
+        _ => 0,
+    };
+    let cells = (0..desks * classes).map(|place| right(place / classes, place % classes));
+    let bytes = SetupBytes {
+        desks: 16,
+        classes: 15,
+        processes: 16,
+        files: 15,
+        rights: cells.collect(),
+        desk_of: (0..16).collect(),
+        class_of: (0..15).collect(),
+    };
+    let line = accept(RULES, &bytes).unwrap();
+    let mut room = [UNTOUCHED; 257];
+    assert_eq!(grid(RULES, &line, &mut room), Ok(256));
+    for (place, number) in room[..256].iter().enumerate() {
+        let (a, b) = (place as u32 / 16, place as u32 % 16);
+        assert_eq!(*number, b.saturating_sub(a));
+    }
+    assert_eq!(room[256], UNTOUCHED);
+}
+
+#[test]
+fn grid_refusals() {
+    let forged = Setup { desks: 17, ..q() };
+    let mut room = [UNTOUCHED; 400];
+    for length in [0, 1, 8] {
+        assert_eq!(grid(RULES, &q(), &mut room[..length]), Err(Refusal::RoomTooShort));
+        assert_eq!(grid(RULES, &forged, &mut room[..length]), Err(Refusal::NoSetup));
+    }
+    assert_eq!(grid(RULES, &forged, &mut room), Err(Refusal::NoSetup));
+    assert_eq!(grid(RULES, &Setup { desks: u32::MAX, ..q() }, &mut room), Err(Refusal::NoSetup));
+    assert_eq!(grid(RULES, &Setup::ZERO, &mut []), Err(Refusal::NoSetup));
+    assert_eq!(room, [UNTOUCHED; 400]);
+}
+
+/// Each turn is told to be of the grid, or not, as its name has it.
+#[test]
+fn turns_of_the_grid() {
+    for turn in TURNS {
+        assert_eq!(turn.is_of_grid(), format!("{turn:?}").starts_with("Grid"));
+    }
 }
 
 #[test]

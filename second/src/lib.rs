@@ -1,8 +1,10 @@
-//! The second program: a store of sheets, written from document 01, to hold the first program to.
+//! The second program: a store of sheets, written from document 01 and the requests of document 02 that have
+//! landed, to hold the first program to.
 
 #![forbid(unsafe_code)]
 
 pub mod call;
+pub mod grid;
 pub mod list;
 pub mod print;
 pub mod refusal;

@@ -1,6 +1,6 @@
 //! Which rule, if any, is turned wrong, so that a comparer can show that it would notice.
 
-/// Each turn but the first breaks exactly one rule of document 01.
+/// Each turn but the first breaks exactly one rule of document 01, or of a request of document 02.
 #[derive(Clone, Copy, PartialEq, Eq, PartialOrd, Ord, Debug)]
 pub enum Turn {
     None,
@@ -65,10 +65,25 @@ pub enum Turn {
     CallLineOneFewer,
     FurtherLineTaken,
     InputOneShorter,
+    // The grid. Those from the first to the last of these are its turns.
+    GridTransposed,
+    GridRowsOfMost,
+    GridDiagonalOne,
+    GridDiagonalKept,
+    GridNoRouteKept,
+    GridOneLinkMore,
+    GridCallsForLinks,
+    GridTailCleared,
+    GridRefusedCleared,
+    GridOneShorter,
+    GridRoomOfRoute,
+    GridRoomOfMost,
+    GridRoomBeforeSetup,
+    GridAnswersDesks,
 }
 
 /// Every turn that breaks a rule.
-pub const TURNS: [Turn; 55] = [
+pub const TURNS: [Turn; 69] = [
     Turn::ReadUnopened,
     Turn::ReadLockedByAnother,
     Turn::WriteUnlocked,
@@ -124,16 +139,37 @@ pub const TURNS: [Turn; 55] = [
     Turn::CallLineOneFewer,
     Turn::FurtherLineTaken,
     Turn::InputOneShorter,
+    Turn::GridTransposed,
+    Turn::GridRowsOfMost,
+    Turn::GridDiagonalOne,
+    Turn::GridDiagonalKept,
+    Turn::GridNoRouteKept,
+    Turn::GridOneLinkMore,
+    Turn::GridCallsForLinks,
+    Turn::GridTailCleared,
+    Turn::GridRefusedCleared,
+    Turn::GridOneShorter,
+    Turn::GridRoomOfRoute,
+    Turn::GridRoomOfMost,
+    Turn::GridRoomBeforeSetup,
+    Turn::GridAnswersDesks,
 ];
 
-/// The rules in force: those of document 01, but for the one that is turned.
+impl Turn {
+    /// Whether it breaks a rule of the grid, so that nothing but a grid can show it.
+    pub fn is_of_grid(self) -> bool {
+        (Turn::GridTransposed..=Turn::GridAnswersDesks).contains(&self)
+    }
+}
+
+/// The rules in force: those of the documents, but for the one that is turned.
 #[derive(Clone, Copy, Debug)]
 pub struct Rules {
     pub turn: Turn,
 }
 
 impl Rules {
-    /// Document 01 as it stands.
+    /// The documents as they stand.
     pub const UNTURNED: Rules = Rules { turn: Turn::None };
 
     pub fn turned(self, turn: Turn) -> bool {

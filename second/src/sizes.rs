@@ -1,4 +1,4 @@
-//! The sizes that document 01 names.
+//! The sizes that the documents name.
 
 pub const DESKS: usize = 16;
 pub const CLASSES: usize = 16;
@@ -22,6 +22,9 @@ pub const LINKS: usize = DESKS - 1;
 pub const CALLS_A_LINK: usize = 4;
 pub const ROUTE_CALLS: usize = CALLS_A_LINK * LINKS + 1;
 pub const ROUTE_NUMBERS: usize = ROUTE_CALLS * CALL_WIDTH;
+
+/// The numbers of the largest grid: one for each desk and each desk.
+pub const GRID_NUMBERS: usize = DESKS * DESKS;
 
 /// Entries of the table of rights, and of open marks, whatever the counts are.
 pub const RIGHTS: usize = DESKS * CLASSES;

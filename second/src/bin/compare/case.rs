@@ -2,12 +2,14 @@
 
 use crate::reply::{Reply, OUTPUT};
 use second::call::{call_by_value, call_in_place, Call};
+use second::grid::grid;
 use second::list::run;
 use second::print::sheets;
 use second::refusal::Refusal;
 use second::route::report;
 use second::rules::Rules;
 use second::setup::{accept, Setup, SetupBytes};
+use second::sizes::ANSWER_WIDTH;
 use second::store::{fresh, judge, Store};
 use second::text::{read_alone, read_with_calls, Fault};
 
@@ -35,6 +37,10 @@ pub enum Case {
         text: Vec<u8>,
         room: Vec<u32>,
     },
+    Grid {
+        setup: Box<Setup>,
+        room: Vec<u32>,
+    },
     /// The only one that goes to the program, and not to the driver.
     Sheets(Vec<u8>),
 }
@@ -50,10 +56,13 @@ mod kind {
     pub const ROUTE: u32 = 7;
     pub const READ_ALONE: u32 = 8;
     pub const READ_WITH_CALLS: u32 = 9;
+    pub const GRID: u32 = 10;
 }
 
-/// The answer of a list or a text as a whole that is refused has this kind.
+/// The answer of a list or a text as a whole, or of a grid, that is refused has this kind.
 const REFUSED_KIND: u32 = 4;
+/// And one that is not has this.
+pub const DONE_KIND: u32 = 0;
 
 /// The body of a case in the making.
 struct Body(Vec<u8>);
@@ -117,6 +126,9 @@ impl Case {
                 let lengths = start.number(text.len()).number(room.len());
                 (kind::READ_WITH_CALLS, lengths.bytes(text).numbers(room))
             }
+            Case::Grid { setup, room } => {
+                (kind::GRID, start.setup(setup).number(room.len()).numbers(room))
+            }
             Case::Sheets(text) => (0, start.bytes(text)),
         }
     }
@@ -155,6 +167,7 @@ impl Case {
             }
             Case::ReadAlone(text) => due_alone(rules, text),
             Case::ReadWithCalls { text, room } => due_with_calls(rules, text, room),
+            Case::Grid { setup, room } => due_grid(rules, setup, room),
             Case::Sheets(text) => Reply::default().bytes(OUTPUT, sheets(rules, text).as_bytes()),
         }
     }
@@ -184,15 +197,19 @@ fn due_accept(rules: Rules, given: &SetupBytes) -> Reply {
         .lent_bytes("classes lent", &given.class_of)
 }
 
+/// What is answered where there is a number of what was done, or a refusal.
+fn answer_as_a_whole(done: Result<u32, Refusal>) -> [u32; ANSWER_WIDTH] {
+    match done {
+        Ok(count) => [DONE_KIND, count],
+        Err(refusal) => [REFUSED_KIND, refusal.number()],
+    }
+}
+
 fn due_list(rules: Rules, held: (&Setup, &Store), calls: &[u32], answers: &[u32]) -> Reply {
     let mut lent = answers.to_vec();
     let (done, next) = run(rules, held.0, held.1, calls, &mut lent);
-    let answer = match done {
-        Ok(count) => [0, count],
-        Err(refusal) => [REFUSED_KIND, refusal.number()],
-    };
     Reply::default()
-        .numbers("answer", &answer)
+        .numbers("answer", &answer_as_a_whole(done))
         .store(&next)
         .lent_words("calls", calls)
         .lent_words("answers", &lent)
@@ -200,10 +217,11 @@ fn due_list(rules: Rules, held: (&Setup, &Store), calls: &[u32], answers: &[u32]
 
 /// What becomes of a text: its answer, the offset, the setup.
 fn due_text(read: Result<(Setup, u32), Fault>) -> Reply {
-    let (answer, offset, setup) = match read {
-        Ok((setup, count)) => ([0, count], 0, setup),
-        Err(fault) => ([REFUSED_KIND, fault.refusal.number()], fault.offset, Setup::ZERO),
+    let (done, offset, setup) = match read {
+        Ok((setup, count)) => (Ok(count), 0, setup),
+        Err(fault) => (Err(fault.refusal), fault.offset, Setup::ZERO),
     };
+    let answer = answer_as_a_whole(done);
     Reply::default().numbers("answer", &answer).length("offset", offset).setup(&setup)
 }
 
@@ -216,4 +234,10 @@ fn due_with_calls(rules: Rules, text: &[u8], room: &[u32]) -> Reply {
     let mut lent = room.to_vec();
     let read = read_with_calls(rules, text, &mut lent);
     due_text(read).lent_bytes("text", text).lent_words("room", &lent)
+}
+
+fn due_grid(rules: Rules, setup: &Setup, room: &[u32]) -> Reply {
+    let mut lent = room.to_vec();
+    let answer = answer_as_a_whole(grid(rules, setup, &mut lent));
+    Reply::default().numbers("answer", &answer).lent_words("room", &lent)
 }

@@ -163,6 +163,15 @@ pub fn all_of_call(setup: &Setup, call: Call) -> Vec<Refusal> {
     ])
 }
 
+/// Every refusal of a grid that applies, in order.
+pub fn all_of_grid(setup: &Setup, room: usize) -> Vec<Refusal> {
+    let square = u64::from(setup.desks) * u64::from(setup.desks);
+    that_apply(&[
+        (!of_setup(setup).is_empty(), Refusal::NoSetup),
+        ((room as u64) < square, Refusal::RoomTooShort),
+    ])
+}
+
 /// Every refusal of a route over a sound setup that applies, in order.
 pub fn all_of_route(setup: &Setup, a: u32, b: u32, room: usize) -> Vec<Refusal> {
     that_apply(&[

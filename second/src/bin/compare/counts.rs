@@ -3,6 +3,7 @@
 use crate::case::Case;
 use crate::causes::{self, COUNT_CAUSES, SETUP_CAUSES, SLICE_CAUSES, STORE_CAUSES};
 use crate::count_calls;
+use crate::count_grids;
 use crate::count_routes;
 use crate::count_texts;
 use crate::tally::Table;
@@ -19,6 +20,7 @@ pub mod entry {
     pub const CALL_IN_PLACE: usize = 3;
     pub const LIST: usize = 4;
     pub const ROUTE: usize = 5;
+    pub const GRID: usize = 6;
 }
 
 pub struct Counts {
@@ -31,13 +33,17 @@ pub struct Counts {
     pub lists: Table,
     pub routes: Table,
     pub texts: Table,
+    pub grids: Table,
 }
 
-const ENTRIES: [&str; 6] = ["fresh", "judge", "by value", "in place", "list", "route"];
+const ENTRIES: [&str; 7] = ["fresh", "judge", "by value", "in place", "list", "route", "grid"];
 
 pub const TEXTS_TOTAL: &str = "texts through the program";
 pub const CALLS_TOTAL: &str = "calls through the library";
 pub const ROUTES_TOTAL: &str = "routes through the library";
+pub const GRIDS_TOTAL: &str = "grids through the library";
+pub const LINKED_TOTAL: &str = "links in a grid, held to the library's own report";
+pub const UNLINKED_TOTAL: &str = "no route in a grid, held to the library's own report";
 pub const SHOWN_TOTAL: &str = "lists that a report wrote, run with A's calls and without";
 
 impl Counts {
@@ -52,10 +58,11 @@ impl Counts {
             lists: lists(),
             routes: count_routes::routes(),
             texts: count_texts::texts(),
+            grids: count_grids::grids(),
         }
     }
 
-    pub fn tables(&self) -> [&Table; 9] {
+    pub fn tables(&self) -> [&Table; 10] {
         [
             &self.totals,
             &self.accepts,
@@ -66,6 +73,7 @@ impl Counts {
             &self.lists,
             &self.routes,
             &self.texts,
+            &self.grids,
         ]
     }
 
@@ -96,6 +104,11 @@ impl Counts {
             }
             Case::ReadAlone(text) => count_texts::meet_alone(self, text),
             Case::ReadWithCalls { text, room } => count_texts::meet_with_calls(self, text, room),
+            Case::Grid { setup, room } => {
+                self.totals.met(GRIDS_TOTAL, 0);
+                self.meet_setup(setup, entry::GRID);
+                count_grids::meet(self, setup, room.len());
+            }
             Case::Sheets(text) => {
                 self.totals.met(TEXTS_TOTAL, 0);
                 count_texts::meet_sheets(self, text);
@@ -199,6 +212,9 @@ fn totals() -> Table {
     table.row(CALLS_TOTAL, 200_000);
     table.row(ROUTES_TOTAL, 5_000);
     table.row(SHOWN_TOTAL, 1_000);
+    table.row(GRIDS_TOTAL, 2_000);
+    table.row(LINKED_TOTAL, 600);
+    table.row(UNLINKED_TOTAL, 600);
     table
 }
 

@@ -22,10 +22,12 @@ impl Eyes {
     }
 
     /// Looks at cases for which the first program gave what is due: a turn is found where it gives another.
+    /// A turn of the grid is looked for in grids alone, since to do all else over for it takes long.
     pub fn look(&mut self, family: &'static str, cases: &[Case], found: &[Found]) {
         for sight in self.sights.iter_mut().filter(|sight| sight.found.is_none()) {
             let rules = Rules { turn: sight.turn };
-            let other = |(case, found): (&Case, &Found)| !case.due(rules).is(found);
+            let shows = |case: &Case| !sight.turn.is_of_grid() || matches!(case, Case::Grid { .. });
+            let other = |(case, found): (&Case, &Found)| shows(case) && !case.due(rules).is(found);
             let place = cases.iter().zip(found).position(other);
             sight.found = place.map(|place| (family, sight.looked + place + 1));
             sight.looked += cases.len();

@@ -2,6 +2,7 @@
 
 use crate::calls;
 use crate::case::Case;
+use crate::grids;
 use crate::random::Random;
 use crate::routes;
 use crate::setups;
@@ -24,7 +25,7 @@ pub struct Family {
 
 pub const ROUTES: &str = "routes";
 
-pub const FAMILIES: [Family; 10] = [
+pub const FAMILIES: [Family; 11] = [
     Family {
         name: "setup bytes",
         hand_made: accepts,
@@ -50,6 +51,7 @@ pub const FAMILIES: [Family; 10] = [
         count: 400,
         make: |random| Case::Sheets(texts::any(random, true)),
     },
+    Family { name: "grids", hand_made: grids::by_hand, count: 2_000, make: grids::case },
 ];
 
 /// A setup: sound most often, now and then forged.
@@ -192,7 +194,7 @@ fn sheets_by_hand() -> Vec<Case> {
 }
 
 /// Setup Q of document 01.
-fn q() -> Setup {
+pub fn q() -> Setup {
     let mut setup = Setup { desks: 3, classes: 2, processes: 3, files: 2, ..Setup::ZERO };
     for (desk, class, right) in [(0, 0, W), (1, 0, R), (1, 1, W), (2, 1, R)] {
         setup.rights[right_at(desk, class)] = right;
@@ -203,7 +205,7 @@ fn q() -> Setup {
 }
 
 /// The setup of case 8, with a second file for COPY.
-fn two_desks() -> Setup {
+pub fn two_desks() -> Setup {
     let mut setup = Setup { desks: 2, classes: 1, processes: 3, files: 2, ..Setup::ZERO };
     setup.rights[right_at(0, 0)] = R;
     setup.rights[right_at(1, 0)] = RW;

@@ -128,6 +128,12 @@ impl Reply {
     }
 }
 
+/// The number of a reply at a place counted in numbers.
+pub fn number(found: &[u8], place: usize) -> Option<u32> {
+    let bytes = found.get(place * WORD..(place + 1) * WORD)?;
+    Some(u32::from_le_bytes(bytes.try_into().ok()?))
+}
+
 fn told(part: &Part, place: usize, given: Option<&[u8]>, due: &[u8]) -> String {
     let value = |bytes: &[u8]| {
         bytes.iter().rev().fold(0u64, |value, &byte| value << 8 | u64::from(byte)).to_string()

@@ -110,7 +110,12 @@ pub fn order(random: &mut Random, bound: usize) -> Vec<usize> {
 /// A setup whose links make a line of layers, with the layers' desks in order. A chain from the first
 /// layer to the last has a link for each step; links backward are strewn in, and change no fewest chain.
 pub fn line(random: &mut Random, links: usize) -> (Setup, Vec<Vec<usize>>) {
-    let desks = order(random, DESKS);
+    line_among(random, DESKS, links)
+}
+
+/// Such a line with so many desks in the setup, which are more than the links.
+pub fn line_among(random: &mut Random, desks: usize, links: usize) -> (Setup, Vec<Vec<usize>>) {
+    let desks = order(random, desks);
     let classes = order(random, CLASSES);
     let mut layers: Vec<Vec<usize>> = desks[..=links].iter().map(|&desk| vec![desk]).collect();
     for &desk in &desks[links + 1..] {
@@ -120,7 +125,7 @@ pub fn line(random: &mut Random, links: usize) -> (Setup, Vec<Vec<usize>>) {
         }
     }
     let files = random.between(links, FILES);
-    let mut setup = of_counts(random, [DESKS, CLASSES, PROCESSES, files]);
+    let mut setup = of_counts(random, [desks.len(), CLASSES, PROCESSES, files]);
     setup.rights = Setup::ZERO.rights;
     for step in 0..links {
         grant(&mut setup, &layers[step], classes[step], W);

@@ -39,6 +39,7 @@ pub fn ways(case: &Case) -> Vec<Simpler> {
         ways.extend((0..DESKS).map(|desk| -> Simpler { Box::new(nearer(desk)) }));
     }
     ways.push(Box::new(clear_room));
+    ways.push(Box::new(even_room));
     if let Case::List { calls, .. } = &case {
         ways.extend((0..calls.len()).map(|place| -> Simpler { Box::new(clear_number(place)) }));
     }
@@ -50,6 +51,7 @@ fn setup_in(case: &mut Case) -> Option<&mut Setup> {
         Case::Fresh(setup) | Case::Judge(setup, _) => Some(setup),
         Case::Call(setup, _, _) | Case::CallInPlace(setup, _, _) => Some(setup),
         Case::List { setup, .. } | Case::Route { setup, .. } => Some(setup),
+        Case::Grid { setup, .. } => Some(setup),
         _ => None,
     }
 }
@@ -115,8 +117,19 @@ fn clear_room(case: &mut Case) {
     match case {
         Case::List { answers, .. } => answers.fill(0),
         Case::Route { room, .. } | Case::ReadWithCalls { room, .. } => room.fill(0),
+        Case::Grid { room, .. } => room.fill(0),
         Case::Call(_, _, call) | Case::CallInPlace(_, _, call) => call.extra = 0,
         _ => {}
+    }
+}
+
+/// Where it matters that a grid's room is not all 0, it may be another number throughout.
+fn even_room(case: &mut Case) {
+    const KEPT: u32 = 7;
+    if let Case::Grid { room, .. } = case {
+        if room.iter().any(|&number| number != room[0]) {
+            room.fill(KEPT);
+        }
     }
 }
 
@@ -290,10 +303,20 @@ fn drop_desk(case: &mut Case, desk: usize) {
     let seats = &mut setup.desk_of[..];
     seats.iter_mut().for_each(|seat| move_up(seat, desk as u8, 1));
     seats.iter_mut().for_each(|seat| *seat = (*seat).min(setup.desks as u8 - 1));
-    if let Case::Route { a, b, .. } = case {
-        move_up(a, desk as u32, 1);
-        move_up(b, desk as u32, 1);
+    match case {
+        Case::Route { a, b, .. } => {
+            move_up(a, desk as u32, 1);
+            move_up(b, desk as u32, 1);
+        }
+        Case::Grid { setup, room } => drop_row_and_column(room, setup.desks as usize),
+        _ => {}
     }
+}
+
+/// A grid's room loses what it held for the desk that went, so that as much as before lies past the grid, or lacks.
+fn drop_row_and_column(room: &mut Vec<u32>, desks: usize) {
+    let held = 2 * desks + 1;
+    room.truncate(room.len().saturating_sub(held));
 }
 
 fn drop_class(case: &mut Case, class: usize) {

@@ -1,8 +1,10 @@
 //! A case in words, so that it can be read and repeated.
 
 use crate::case::Case;
+use crate::programs::Found;
+use crate::reply::{number, Reply, GUARD_WORDS};
 use second::setup::{Setup, SetupBytes};
-use second::sizes::{CALL_WIDTH, CLASSES, PROCESSES};
+use second::sizes::{ANSWER_WIDTH, CALL_WIDTH, CLASSES, PROCESSES};
 use second::store::Store;
 
 /// The longest run of numbers that is told whole.
@@ -34,8 +36,27 @@ pub fn tell(case: &Case) -> String {
         Case::ReadWithCalls { text, room } => {
             format!("text with calls\n{}  room {}\n", tell_text(text), tell_numbers(room))
         }
+        Case::Grid { setup, room } => {
+            format!("grid\n{}  room {}\n", tell_setup(setup), tell_numbers(room))
+        }
         Case::Sheets(text) => format!("text through sheets\n{}", tell_text(text)),
     }
+}
+
+/// What both programs made of a grid, since a single number of it says little.
+pub fn tell_grids(case: &Case, due: &Reply, found: &Found) -> String {
+    let Case::Grid { room, .. } = case else {
+        return String::new();
+    };
+    let told = |who: &str, reply: &[u8]| {
+        let numbers =
+            |first, count| (first..first + count).filter_map(|place| number(reply, place));
+        let answer: Vec<u32> = numbers(0, ANSWER_WIDTH).collect();
+        let left: Vec<u32> = numbers(ANSWER_WIDTH + GUARD_WORDS, room.len()).collect();
+        format!("  the {who} answers {answer:?} and leaves a room {}\n", tell_numbers(&left))
+    };
+    let first = found.as_ref().map_or(String::new(), |found| told("first", found));
+    first + &told("second", &due.bytes)
 }
 
 fn tell_text(text: &[u8]) -> String {

@@ -2,15 +2,16 @@
 
 use crate::brute::{list_case, struck, Brute};
 use crate::case::Case;
-use crate::counts::{Counts, SHOWN_TOTAL};
+use crate::counts::{Counts, LINKED_TOTAL, SHOWN_TOTAL, UNLINKED_TOTAL};
 use crate::eyes::Eyes;
 use crate::families::{Family, FAMILIES};
 use crate::least::Cutter;
 use crate::options::Options;
 use crate::programs::{Found, Lack, Patience, Programs, REPLY_LIMIT};
 use crate::random::Random;
-use crate::reply::{GUARD_WORDS, STORE_BYTES, WORD};
-use crate::telling::{tell, tell_setup};
+use crate::reply::{number, GUARD_WORDS, STORE_BYTES, WORD};
+use crate::singles;
+use crate::telling::{tell, tell_grids, tell_setup};
 use second::call::Call;
 use second::rules::{Rules, Turn};
 use second::sizes::{ANSWER_WIDTH, CALL_WIDTH};
@@ -31,6 +32,7 @@ const SEARCHES: usize = 3_000;
 
 pub const WRITTEN: &str = "lists that reports wrote";
 pub const SEARCHED: &str = "lists and reports of the search";
+pub const SINGLES: &str = "reports on the pairs of grids";
 
 /// What became of a family.
 pub struct Result {
@@ -52,6 +54,8 @@ pub struct Trial {
     pub brute: Brute,
     /// Lists that a report wrote and that do not show what they are to show.
     pub unshown: u64,
+    /// Numbers of grids that are not what the first program itself reports on the pair.
+    pub unlike: u64,
 }
 
 impl Trial {
@@ -69,6 +73,7 @@ impl Trial {
             eyes: Eyes::new(),
             brute: Brute::default(),
             unshown: 0,
+            unlike: 0,
             options,
         }
     }
@@ -98,10 +103,11 @@ impl Trial {
         }
     }
 
-    /// Puts a batch, and runs the list of each report in it.
+    /// Puts a batch, runs the list of each report in it, and asks for reports on the pairs of its grids.
     fn put_and_run(&mut self, family: &'static str, random: &mut Random, cases: &[Case]) {
         let found = self.put(family, cases);
         self.run_written(random, cases, &found);
+        self.ask_singly(random, cases, &found);
     }
 
     /// Puts a batch of cases to both programs, and hands back what the first gave.
@@ -159,9 +165,10 @@ impl Trial {
             false => (&least, anew, "cut down"),
             true => (case, found, "which did not come again"),
         };
-        let difference = case.due(self.rules).difference(found);
+        let due = case.due(self.rules);
         println!("\nA difference in {family}, with seed {}, {how}:", self.options.seed);
-        println!("{}  {difference}", tell(case));
+        print!("{}{}", tell(case), tell_grids(case, &due, found));
+        println!("  {}", due.difference(found));
     }
 
     /// Runs each list that the first program's reports wrote, with A's calls and without.
@@ -182,6 +189,19 @@ impl Trial {
                 let shown = [1, 0] == [0, 1].map(|run| last_figure(&lists[run], &found[run]));
                 self.counts.totals.met(SHOWN_TOTAL, 0);
                 self.unshown += u64::from(!shown);
+            }
+        }
+    }
+
+    /// Holds each number of some grids that the first program filled to its own report on that pair.
+    fn ask_singly(&mut self, random: &mut Random, cases: &[Case], found: &[Found]) {
+        for singles in singles::of_grids(random, cases, found).chunks(BATCH) {
+            let cases: Vec<Case> = singles.iter().map(|single| single.case.clone()).collect();
+            let found = self.put(SINGLES, &cases);
+            for (single, found) in singles.iter().zip(&found) {
+                let total = if single.number > 0 { LINKED_TOTAL } else { UNLINKED_TOTAL };
+                self.counts.totals.met(total, 0);
+                self.unlike += u64::from(!single.agrees(found));
             }
         }
     }
@@ -240,6 +260,10 @@ impl Trial {
             format!("written lists: {} do not show figure 1, and 0 without A", self.unshown),
             self.unshown == 0,
         ));
+        checks.push((
+            format!("grids: {} numbers are not as the first program reports", self.unlike),
+            self.unlike == 0,
+        ));
         checks
     }
 
@@ -258,12 +282,6 @@ impl Trial {
         };
         self.eyes.sights.iter().map(told).collect()
     }
-}
-
-/// The numbers of a reply at a place counted in numbers.
-fn number(found: &[u8], place: usize) -> Option<u32> {
-    let bytes = found.get(place * WORD..(place + 1) * WORD)?;
-    Some(u32::from_le_bytes(bytes.try_into().ok()?))
 }
 
 /// The calls that a reply to a route case says were written.
