@@ -194,7 +194,7 @@ dw_answer peer_run(const dw_setup *setup, dw_store *store, const uint32_t *calls
 
 /* ---- The route report: a breadth-first search back from b, then a walk forward from a. */
 
-/* What one report works with: each desk's first process, and for a route how many links it stands from b. */
+/* What one report or grid works with: each desk's first process, and for a route how many links it stands from b. */
 struct search {
     const dw_setup *s;
     uint32_t first[DW_DESKS];

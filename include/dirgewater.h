@@ -82,8 +82,8 @@ extern "C" {
 #define DW_ROUTE_CALLS(links) (4 * (links) + 1)
 #define DW_ROUTE_NUMBERS (DW_ROUTE_CALLS(DW_DESKS - 1) * DW_CALL_WIDTH)
 
-/* A grid has a number for each desk a that is heard and each desk b that hears it; where the number lies goes by the setup's
- * own number of desks. Then room for every grid. */
+/* A grid has a number for every two desks, a to be heard and b to hear; where it lies goes by the setup's own number of desks.
+ * Then room for every grid. */
 #define DW_GRID_AT(desks, a, b) ((a) * (desks) + (b))
 #define DW_GRID_NUMBERS (DW_DESKS * DW_DESKS)
 
@@ -254,8 +254,8 @@ dw_answer dw_route(dw_setup setup, uint32_t a, uint32_t b, uint32_t *room, size_
 /* The number of links from every desk to every desk at once. With D the setup's own number of desks, D * D numbers fill the
  * front of room, and the one for a and b lies at DW_GRID_AT(D, a, b): 0 where a is b, and where there is no route from a to b,
  * which is where b can never hear a; else the number k of links, above 0, of the chain that dw_route takes from a to b and
- * shows by DW_ROUTE_CALLS(k) calls. What lies past them keeps its values. Answers DW_DONE and D * D. Room of D * D numbers
- * is asked for; DW_GRID_NUMBERS are enough for every setup.
+ * shows by DW_ROUTE_CALLS(k) calls. What lies past the D * D numbers keeps its values. Answers DW_DONE and D * D. Room of
+ * D * D numbers is needed, and of DW_GRID_NUMBERS is enough for every setup.
  * Refusals, in this order: 15, 11. A refusal writes nothing. */
 dw_answer dw_grid(dw_setup setup, uint32_t *room, size_t room_len);
 

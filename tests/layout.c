@@ -820,7 +820,7 @@ static const dw_setup five_desks = {
     .class_of = {2, 0, 1},
 };
 
-/* A row for each desk that is heard; with a column for each it would be another grid. */
+/* A row for each desk that is heard. The grid is not its own transpose, so that rows taken for columns are seen. */
 static const uint32_t five_links[] = {0, 2, 0, 0, 1,
                                       0, 0, 0, 0, 0,
                                       0, 0, 0, 0, 0,
@@ -862,7 +862,7 @@ static void grid_is_refused(dw_setup s, size_t room_len, uint32_t refusal)
     guards_stand();
 }
 
-/* It is a link for each step forward; the way all round, to the desk itself, is not told. The least room is counted in
+/* One link for each step forward; the way all round, to the desk itself, is not told. The least room is counted in
  * numbers, and one less is refused. */
 static void ring_is_counted(uint32_t desks)
 {

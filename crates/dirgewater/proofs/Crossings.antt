@@ -6,7 +6,7 @@ use Rattle.rules.specs.declared.Setup.{Setup}
 use Rattle.lines.specs.Entries.{textNumbersOf}
 use Rattle.lines.specs.declared.GivenText.{GivenText}
 
--- the two numbers of an answer are those of one that is the same
+-- two numbers that are those of an answer are those of any answer equal to it
 pub numbers-same : {A : Type 0} (numbers : A → ℕ × ℕ) {answer same : A} {kind value : ℕ} → answer ≡ same
     → (kind ≡ numbers answer .0) × (value ≡ numbers answer .1) → (kind ≡ numbers same .0) × (value ≡ numbers same .1)
 numbers-same {A} numbers e told = (told .0 ∙ ap (λ (x : A). numbers x .0) e, told .1 ∙ ap (λ (x : A). numbers x .1) e)

@@ -32,7 +32,7 @@ ghost use Rattle.routes.specs.Reports.{routed, routeNumbersOf};
 ghost use Rattle.routes.specs.Reports as route;
 ghost use Rattle.routes.specs.Demand3.{Demand3};
 ghost use Rattle.grids.specs.Grids.{gridded, gridNumbersOf, GridTells};
-ghost use Rattle.grids.specs.Grids as grids;
+ghost use Rattle.grids.specs.Grids as grid;
 
 // Entry: the setup that the counts and the slices give, or their refusal.
 #[no_mangle]
@@ -137,7 +137,7 @@ fn grid_numbers_of(answer: GridAnswer) -> Numbered
 pub extern "C" fn dw_grid(setup: Setup, room: &mut [u32]) -> Numbered
     ensures { λ r. let n = gridNumbersOf (gridded setup (length (now (room .entry)))) in
         ⌜ (r .kind ≡ n .0) × (r .value ≡ n .1) ⌝ }
-    ensures room { λ _. ⌜ now (room .exit) ≡ grids.roomAfter setup (now (room .entry)) ⌝ }
+    ensures room { λ _. ⌜ now (room .exit) ≡ grid.roomAfter setup (now (room .entry)) ⌝ }
     ensures demand3 { λ _. ⌜ GridTells setup (gridded setup (length (now (room .entry)))) (now (room .exit)) ⌝ }
 {
     let answer = grid(setup, room);

@@ -11,7 +11,7 @@ use lib.Seq.{ext-getD, getD-set-same, getD-set-other, getD-take, getD-drop, leng
 use Rattle.rules.specs.Sizes.{table}
 use Rattle.rules.proofs.Sizes.{table-is}
 use Rattle.grids.specs.Columns.{withColumn}
-use Rattle.grids.proofs.Squares.{place-lt, same-row, same-column, row-lt, column-lt, place-of}
+use Rattle.grids.proofs.Squares.{place-lt, same-row, same-column, row-lt, column-lt, place-again}
 
 module _ (desks b : ℕ) (f : ℕ → ℕ) (room : List ℕ) where
   pub column-length : (n : ℕ) → length (withColumn desks b f n room) ≡ length room
@@ -93,7 +93,7 @@ module _ {desks : ℕ} {g : ℕ → ℕ → ℕ} {lent : List ℕ} where
         let n = desks * desks in
         table-is n _ (take n room) 0 (length-take-le n room (omega (arith, h .long)))
         (λ i k.
-        getD-take n room i 0 k ∙ ap (λ (j : ℕ). getD room j 0) (sym (place-of desks i k))
+        getD-take n room i 0 k ∙ ap (λ (j : ℕ). getD room j 0) (sym (place-again desks i k))
         ∙ h .numbers (i / desks) (i % desks) (row-lt desks i k) (omega (arith, column-lt desks i k)))
 
     rest : drop (desks * desks) room ≡ drop (desks * desks) lent

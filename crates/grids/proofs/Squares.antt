@@ -5,15 +5,19 @@ use mathlib.Core.Path.{_≡_, ap, sym, _∙_}
 use mathlib.Core.Bool.{true}
 use native.Mathlib.Nat.{not-suc-le-zero, mul-le-mul, mul-le-mul-right, mod-lt, mod-eq-of-lt, div-eq-of-lt, div-add-mod', div-lt-iff-lt-mul, mul-add-div-right, mul-add-mod-self-right}
 use native.Mathlib.Omega.{arith}
+use Rattle.rules.specs.Sizes.{mostDesks}
 use Rattle.rules.specs.Setups.{accepted}
 use Rattle.rules.specs.declared.Setup.{Setup}
 use Rattle.rules.proofs.Setups.{accepted-sizes}
 use Rattle.reaching.specs.Tables.{mostPairs}
-use Rattle.grids.specs.Grids.{numbersOfGrid}
+use Rattle.grids.specs.Grids.{gridLength}
 
 -- a grid has no more numbers than a table of links
-pub grid-small : (s : Setup) → accepted s ≡ true → numbersOfGrid s ≤ mostPairs
-grid-small s e = let h = accepted-sizes s e .of-desks .high in mul-le-mul h h
+pub few-numbers : (desks : ℕ) → desks ≤ mostDesks → desks * desks ≤ mostPairs
+few-numbers desks h = mul-le-mul h h
+
+pub grid-small : (s : Setup) → accepted s ≡ true → gridLength s ≤ mostPairs
+grid-small s e = few-numbers (s .desks) (accepted-sizes s e .of-desks .high)
 
 module _ (desks a b : ℕ) (column : b < desks) where
   -- the place tells its row and its column
@@ -45,5 +49,5 @@ module _ (desks i : ℕ) (inside : i < desks * desks) where
   column-lt = mod-lt i (some-desk desks i inside)
 
   -- and each place below the end is that of its row and its column
-  pub place-of : i / desks * desks + i % desks ≡ i
-  place-of = div-add-mod' i desks
+  pub place-again : i / desks * desks + i % desks ≡ i
+  place-again = div-add-mod' i desks

@@ -13,13 +13,13 @@ use Rattle.rules.specs.Links.{linked}
 use Rattle.rules.specs.declared.Setup.{Setup}
 use Rattle.rules.proofs.Refusals.{unmet-iff}
 use Rattle.rules.proofs.Told.{unless-refused}
-use Rattle.grids.specs.Grids.{numbersOfGrid, gridOrder, gridRefusal, gridOver, gridded, roomAfter}
+use Rattle.grids.specs.Grids.{gridLength, gridOrder, gridRefusal, gridOver, gridded, roomAfter}
 use Rattle.grids.specs.declared.GridAnswer.the-variants.{Filled, Refused}
 
 -- a grid that is not refused has an accepted setup, and room for its numbers
 pub record Sound (s : Setup) (room : ℕ) : Type 0 where
   pub setup : accepted s ≡ true
-  pub spacious : numbersOfGrid s ≤ room
+  pub spacious : gridLength s ≤ room
 
 pub grid-sound : (s : Setup) (room : ℕ) → gridRefusal s room ≡ 0 → Sound s room
 unfolding gridRefusal
@@ -40,10 +40,10 @@ module _ (s : Setup) (room : List ℕ) where
 
   -- and else the front of the room is the grid
   module _ (e : gridRefusal s (length room) ≡ 0) where
-    pub gridded-filled : gridded s (length room) ≡ Filled (numbersOfGrid s)
+    pub gridded-filled : gridded s (length room) ≡ Filled (gridLength s)
     unfolding gridded
     gridded-filled = rw e
 
-    pub room-filled : roomAfter s room ≡ gridOver (linked s) (s .desks) ++ drop (numbersOfGrid s) room
+    pub room-filled : roomAfter s room ≡ gridOver (linked s) (s .desks) ++ drop (gridLength s) room
     unfolding roomAfter
     room-filled = rw e

@@ -17,12 +17,12 @@ use Rattle.grids.specs.declared.GridAnswer.{GridAnswer}
 use Rattle.grids.specs.declared.GridAnswer.the-variants.{Filled, Refused}
 
 -- "D x D numbers"
-abbrev pub numbersOfGrid : Setup → ℕ
-numbersOfGrid s = s .desks * s .desks
+abbrev pub gridLength : Setup → ℕ
+gridLength s = s .desks * s .desks
 
 -- "when the grid is shorter than D x D"
 abbrev pub refusal11OfGrid : Setup → ℕ → Refusal
-refusal11OfGrid s room = ltb room (numbersOfGrid s) gives 11
+refusal11OfGrid s room = ltb room (gridLength s) gives 11
 
 -- "Refusals: 15, then 11"
 abbrev pub gridOrder : Setup → ℕ → List Refusal
@@ -31,15 +31,16 @@ gridOrder s room = refusal15 s ∷ refusal11OfGrid s room ∷ []
 unfoldable pub gridRefusal : Setup → ℕ → ℕ
 gridRefusal s room = firstOf (gridOrder s room)
 
--- "0 for no route and for the diagonal, else the number of links": a number of links that is past them is no route
+-- "0 for no route and for the diagonal, else the number of links"; `far` is no route
 abbrev pub linksOrNone : ℕ → ℕ
 linksOrNone k = cond (ltb k far) k 0
 
--- the number for desks a and b, from the report's number of links; from a desk to itself that is 0
+-- "Each entry must equal what the single report finds for that pair": it is made of the report's number of links, which from a desk to
+-- itself is 0 (`route-iff`, `no-route-iff` and `own-entry` say so of the entry)
 abbrev pub gridNumber : Links → ℕ → ℕ → ℕ
 gridNumber links a b = linksOrNone (fewestLinks links a b)
 
--- "row A, column B: the number for A and B lies at A x D + B"
+-- as decided, "row A, column B: the number for A and B lies at A x D + B"; so place i is row i / D, column i % D
 unfoldable pub gridOver : Links → ℕ → List ℕ
 gridOver links desks = table (desks * desks) (λ i. gridNumber links (i / desks) (i % desks))
 
@@ -47,11 +48,11 @@ gridOver links desks = table (desks * desks) (λ i. gridNumber links (i / desks)
 unfoldable pub gridded : Setup → ℕ → GridAnswer
 gridded s room =
     let r = gridRefusal s room in
-    unless r (Filled (numbersOfGrid s)) (Refused r)
+    unless r (Filled (gridLength s)) (Refused r)
 
 -- the grid fills the front of the room, and what lies past it keeps its values; a refusal writes nothing
 unfoldable pub roomAfter : Setup → List ℕ → List ℕ
-roomAfter s room = unless (gridRefusal s (length room)) (gridOver (linked s) (s .desks) ++ drop (numbersOfGrid s) room) room
+roomAfter s room = unless (gridRefusal s (length room)) (gridOver (linked s) (s .desks) ++ drop (gridLength s) room) room
 
 -- what the grid tells of demand 3: of two different desks the number is 0 exactly where no list of calls lets b hear whether a's are in it
 abbrev pub GridTells : Setup → GridAnswer → List ℕ → Type 0

@@ -1,7 +1,7 @@
 // Filling the grid of a table of links, a column for each desk that hears: one search finds how far every desk stands from it.
 use reaching::nearing::FAR;
+use reaching::nearing::LINKS;
 use reaching::nearing::reach;
-use routes::LINKS;
 ghost use mathlib.Core.Path.{_≡_};
 ghost use mathlib.Core.List.{_++_};
 ghost use Prim.Native.Nat.{_+_, _*_, _<_, _≤_};
@@ -11,7 +11,7 @@ ghost use Rattle.reaching.specs.Tables.{mostPairs, linksIn};
 ghost use Rattle.grids.specs.Grids.{linksOrNone, gridOver};
 ghost use Rattle.grids.specs.Columns.{columnOf, withColumn};
 
-// The number of links, and 0 where there are none that few.
+// The number of links, and 0 for FAR, which is no route.
 fn links_or_none(count: u8) -> u32
     ensures { λ r. ⌜ r ≡ linksOrNone count ⌝ }
 {
@@ -27,7 +27,7 @@ fn place_of(desks: usize, a: usize, b: usize) -> usize
     a * desks + b
 }
 
-// The numbers of all desks that desk b may hear, each in its row.
+// Column b: the number of every desk, each in its row.
 fn put_column(room: &mut [u32], to: &[u8], desks: usize, b: usize)
     requires { ⌜ (length (now to) ≡ mostDesks) × (desks ≤ mostDesks) × (b < desks) × (desks * desks ≤ length (now room)) ⌝ }
     ensures { λ _. ⌜ now (room .exit) ≡ withColumn desks b (columnOf (now (to .entry))) desks (now (room .entry)) ⌝ }

@@ -38,6 +38,6 @@ pub fn grid(setup: Setup, room: &mut [u32]) -> GridAnswer
     let desks = setup.desks as usize;
     let links = links_of(setup);
     fill(&links, desks, room);
-    let count = desks * desks;
-    GridAnswer::Filled(count as u32)
+    let count = (desks * desks) as u32;
+    GridAnswer::Filled(count)
 }

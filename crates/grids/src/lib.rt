@@ -1,5 +1,5 @@
 // The grid: the number of links from every desk to every desk at once.
-pub mod filling;
+mod filling;
 pub mod grid;
 
 // How many numbers were filled in, or the refusal.

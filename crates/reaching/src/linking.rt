@@ -1,4 +1,4 @@
-// The table of links, desks by desks: made once a report, so that whether a link runs is asked of it; which file serves it, of the setup.
+// The table of links, desks by desks: made once a report or a grid, so that whether a link runs is asked of it; which file serves it, of the setup.
 use judging::rights::has_r;
 use judging::rights::has_w;
 use rules::CLASSES;

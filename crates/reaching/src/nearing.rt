@@ -9,6 +9,9 @@ ghost use Rattle.rules.specs.Sizes.{mostDesks, someBelow, table};
 ghost use Rattle.chains.specs.Chains.{mostLinks, nearer, reach};
 ghost use Rattle.reaching.specs.Tables.{mostPairs, linksIn};
 
+// The most links that a chain needs.
+pub const LINKS: usize = DESKS - 1;
+
 // A number past every number of links that a chain needs.
 pub const FAR: u8 = DESKS as u8;
 

@@ -2,11 +2,8 @@
 pub mod report;
 mod writing;
 
+use reaching::nearing::LINKS;
 use rules::CALL_WIDTH;
-use rules::DESKS;
-
-// The most links that a chain needs.
-pub const LINKS: usize = DESKS - 1;
 
 // A list has so many calls for each link, and so many more at its end.
 pub const CALLS_OF_LINK: usize = 4;

@@ -1,13 +1,13 @@
 // The route report: its refusals and its entry.
 use crate::CALLS_AT_END;
 use crate::CALLS_OF_LINK;
-use crate::LINKS;
 use crate::ROUTE_NUMBERS;
 use crate::RouteAnswer;
 use crate::writing::write_route;
 use judging::fitting::accepted;
 use reaching::linking::links_of;
 use reaching::nearing::FAR;
+use reaching::nearing::LINKS;
 use reaching::nearing::reach;
 use rules::NO_SUCH_ROUTE_DESK;
 use rules::NOT_ACCEPTED;

@@ -19,7 +19,7 @@ Inv-loop links desks room₀ b₀ room b = Grown desks (gridNumber (linksIn link
 abbrev μ-loop : tie.MeasureT-loop
 μ-loop links desks room₀ b₀ room b = desks - b
 
--- The places: from the loop the start, from the column's lent numbers the search, and from the loop's end the column.
+-- The places: from the loop the start, from the column's lent numbers the search, from the loop's end the column, and the loop's test.
 abbrev start : tie.At-loop Inv-loop μ-loop → tie.Start Inv-loop μ-loop
 start c = c .before .before .before
 

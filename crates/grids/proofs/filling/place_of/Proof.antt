@@ -2,15 +2,14 @@
 -- Assumes nothing.
 use Prim.Native.Nat.{_+_, _*_, _<_, _≤_}
 use mathlib.Core.Path.{refl}
-use native.Mathlib.Nat.{mul-le-mul}
 use native.Mathlib.Omega.{arith}
 use Rattle.reaching.specs.Tables.{mostPairs}
-use Rattle.grids.proofs.Squares.{place-lt}
+use Rattle.grids.proofs.Squares.{few-numbers, place-lt}
 use Rattle.grids.proofs.filling.place_of.Statement.{statement}
 use Rattle.grids.proofs.filling.place_of.Tie as tie
 
 placed : (c : tie.Start) → (let at = c .args in (at .a * at .desks + at .b < at .desks * at .desks) × (at .desks * at .desks ≤ mostPairs))
-placed c = (place-lt (c .args .desks) (c .args .a) (c .args .b) (c .pre .2) (c .pre .1), mul-le-mul (c .pre .0) (c .pre .0))
+placed c = (place-lt (c .args .desks) (c .args .a) (c .args .b) (c .pre .2) (c .pre .1), few-numbers (c .args .desks) (c .pre .0))
 
 mul-result : tie.Need-mul-result
 mul-result c = omega (arith, placed c)

@@ -11,7 +11,7 @@ use Rattle.rules.specs.declared.Setup.{Setup}
 use Rattle.rules.proofs.Setups.{accepted-sizes}
 use Rattle.chains.specs.Chains.{Links}
 use Rattle.reaching.specs.Tables.{mostPairs}
-use Rattle.grids.specs.Grids.{numbersOfGrid, gridRefusal, gridOver, gridded, roomAfter, gridNumbersOf, GridTells}
+use Rattle.grids.specs.Grids.{gridLength, gridRefusal, gridOver, gridded, roomAfter, gridNumbersOf, GridTells}
 use Rattle.grids.specs.declared.GridAnswer.{GridAnswer}
 use Rattle.grids.proofs.Squares.{grid-small}
 use Rattle.grids.proofs.Whole.{Sound, grid-sound, gridded-refused, room-refused, gridded-filled, room-filled}
@@ -19,7 +19,7 @@ use Rattle.grids.proofs.Agreed.{grid-tells}
 use Rattle.grids.proofs.grid.grid.Statement.{statement}
 use Rattle.grids.proofs.grid.grid.Tie as tie
 
--- The places: from the refusal the start, from the links the test of the refusal, and from the grid's end the links.
+-- The places: from the refusal the start, from the links the test of the refusal, from the end the filling, from its argument the links.
 abbrev start : tie.After-grid-refusal → tie.Start
 start c = c .before .before
 
@@ -71,14 +71,14 @@ fill-requires c κs =
     (long, accepted-sizes _ (h .setup) .of-desks .high, h .spacious)
 
 -- the numbers of a grid are few
-small : (c : tie.After-slice-known2) → numbersOfGrid (start (at-test (at-links (at-fill c .before)) .before) .args .setup) ≤ mostPairs
+small : (c : tie.After-slice-known2) → gridLength (start (at-test (at-links (at-fill c .before)) .before) .args .setup) ≤ mostPairs
 small c = grid-small _ (sound (at-test (at-links (at-fill c .before))) .setup)
 
 mul-count : tie.Need-mul-count
 mul-count c = omega (arith, small c)
 
-cast-t15 : tie.Need-cast-t15
-cast-t15 c = omega (arith, small c)
+cast-count : tie.Need-cast-count
+cast-count c = omega (arith, small c)
 
 same-length : tie.Need-same-length
 same-length c = search needs
@@ -90,7 +90,7 @@ returns-2 c =
     let test = at-test links in
     let at = start (test .before) .args in
     let e = unrefused test in
-    let over : Links → List ℕ = λ l. gridOver l (at .setup .desks) ++ drop (numbersOfGrid (at .setup)) (at .room .now) in
+    let over : Links → List ℕ = λ l. gridOver l (at .setup .desks) ++ drop (gridLength (at .setup)) (at .room .now) in
     promised (at .setup) (at .room .now) (sym (gridded-filled (at .setup) (at .room .now) e))
     (fill .fill .ensures ∙ ap over (links .links-of .ensures) ∙ sym (room-filled (at .setup) (at .room .now) e))
 
@@ -105,6 +105,6 @@ grid-spec =
     slice-aggregate-fill
     fill-requires
     mul-count
-    cast-t15
+    cast-count
     same-length
     returns-2)
