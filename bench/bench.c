@@ -662,6 +662,6 @@ int main(void)
         printf("FAILED: fewer than half of the calls go through\n");
         return 1;
     }
-    printf(differs ? "FAILED: an answer or a store differs\n" : "every answer and every store is the same\n");
+    printf(differs ? "FAILED: an answer, a store or a room differs\n" : "every answer, store and room is the same\n");
     return differs;
 }

@@ -82,8 +82,8 @@ extern "C" {
 #define DW_ROUTE_CALLS(links) (4 * (links) + 1)
 #define DW_ROUTE_NUMBERS (DW_ROUTE_CALLS(DW_DESKS - 1) * DW_CALL_WIDTH)
 
-/* A grid has a number for every two desks, a to be heard and b to hear; where it lies goes by the setup's own number of desks.
- * Then room for every grid. */
+/* A grid has a number for each desk a that may be heard and each desk b that may hear. DW_GRID_AT says where it lies, by the
+ * setup's own number of desks; DW_GRID_NUMBERS is room for every grid. */
 #define DW_GRID_AT(desks, a, b) ((a) * (desks) + (b))
 #define DW_GRID_NUMBERS (DW_DESKS * DW_DESKS)
 

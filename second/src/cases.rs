@@ -9,7 +9,7 @@ use crate::refusal::Refusal;
 use crate::route::{report, Report};
 use crate::rules::{Rules, TURNS};
 use crate::setup::{accept, Setup, SetupBytes, R, W};
-use crate::sizes::{ANSWER_WIDTH, CALL_WIDTH};
+use crate::sizes::{ANSWER_WIDTH, CALL_WIDTH, DESKS, GRID_NUMBERS, LINKS};
 use crate::store::{fresh, Store};
 
 const RULES: Rules = Rules::UNTURNED;
@@ -182,33 +182,35 @@ fn grid_has_the_desk_that_is_heard_by_row() {
     assert_eq!(room, [0, 0, 1, 0]);
 }
 
-/// A line of all desks has every number of links, from each desk to those after it.
+/// A line of all desks has every number of links, from each desk to those after it. Each link has a class of
+/// its own with one file.
 #[test]
 fn grid_of_a_line_of_sixteen_desks() {
-    let (desks, classes) = (16, 15);
+    // Held to the numbers themselves, so that a wrong size does not make a shorter line.
+    assert_eq!((DESKS, LINKS, GRID_NUMBERS), (16, 15, 256));
     let right = |desk, class| match class {
         class if class == desk => W,
         class if class + 1 == desk => R,
         _ => 0,
     };
-    let cells = (0..desks * classes).map(|place| right(place / classes, place % classes));
+    let cells = (0..DESKS * LINKS).map(|place| right(place / LINKS, place % LINKS));
     let bytes = SetupBytes {
-        desks: 16,
-        classes: 15,
-        processes: 16,
-        files: 15,
+        desks: DESKS as u32,
+        classes: LINKS as u32,
+        processes: DESKS as u32,
+        files: LINKS as u32,
         rights: cells.collect(),
-        desk_of: (0..16).collect(),
-        class_of: (0..15).collect(),
+        desk_of: (0..DESKS as u8).collect(),
+        class_of: (0..LINKS as u8).collect(),
     };
     let line = accept(RULES, &bytes).unwrap();
-    let mut room = [UNTOUCHED; 257];
-    assert_eq!(grid(RULES, &line, &mut room), Ok(256));
-    for (place, number) in room[..256].iter().enumerate() {
-        let (a, b) = (place as u32 / 16, place as u32 % 16);
-        assert_eq!(*number, b.saturating_sub(a));
+    let mut room = [UNTOUCHED; GRID_NUMBERS + 1];
+    assert_eq!(grid(RULES, &line, &mut room), Ok(GRID_NUMBERS as u32));
+    for (place, number) in room[..GRID_NUMBERS].iter().enumerate() {
+        let (a, b) = (place / DESKS, place % DESKS);
+        assert_eq!(*number as usize, b.saturating_sub(a));
     }
-    assert_eq!(room[256], UNTOUCHED);
+    assert_eq!(room[GRID_NUMBERS], UNTOUCHED);
 }
 
 #[test]

@@ -4,7 +4,7 @@ use crate::refusal::Refusal;
 use crate::route::{report, Report};
 use crate::rules::{Rules, Turn};
 use crate::setup::{could_be_accepted, Setup};
-use crate::sizes::{CALLS_A_LINK, DESKS, GRID_NUMBERS, ROUTE_NUMBERS};
+use crate::sizes::{links_of, DESKS, GRID_NUMBERS, ROUTE_NUMBERS};
 
 /// The numbers that a run must hold. The desks may be any number, since they may not be judged yet.
 fn asked(rules: Rules, setup: &Setup) -> u64 {
@@ -39,7 +39,7 @@ fn number(rules: Rules, setup: &Setup, a: u32, b: u32) -> Result<u32, Refusal> {
         Report::Route(calls) if rules.turned(Turn::GridCallsForLinks) => Ok(calls),
         Report::Route(calls) => {
             let more = u32::from(rules.turned(Turn::GridOneLinkMore));
-            Ok((calls - 1) / CALLS_A_LINK as u32 + more)
+            Ok(links_of(calls) + more)
         }
         Report::Refused(refusal) => Err(refusal),
     }

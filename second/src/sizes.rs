@@ -18,9 +18,21 @@ pub const LIST_NUMBERS: usize = CALLS * CALL_WIDTH;
 /// The most links in a chain with the fewest, since no desk is in it twice.
 pub const LINKS: usize = DESKS - 1;
 
-/// The calls of a route's list: so many for each link, and one more. The room that a route asks for holds the longest.
-pub const CALLS_A_LINK: usize = 4;
-pub const ROUTE_CALLS: usize = CALLS_A_LINK * LINKS + 1;
+/// A route's list has so many calls for each link, and one more.
+const CALLS_A_LINK: u32 = 4;
+
+/// The calls of a list over so many links, which may be any number: one from the other program may be wrong.
+pub const fn calls_over(links: u32) -> u32 {
+    links.saturating_mul(CALLS_A_LINK).saturating_add(1)
+}
+
+/// The links that a list of so many calls goes over. It must have a call, as every route's list has.
+pub const fn links_of(calls: u32) -> u32 {
+    (calls - 1) / CALLS_A_LINK
+}
+
+/// The calls of the longest list of a route. The room that a route asks for holds it.
+pub const ROUTE_CALLS: usize = calls_over(LINKS as u32) as usize;
 pub const ROUTE_NUMBERS: usize = ROUTE_CALLS * CALL_WIDTH;
 
 /// The numbers of the largest grid: one for each desk and each desk.

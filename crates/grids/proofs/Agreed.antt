@@ -1,14 +1,14 @@
 -- What the numbers of the grid tell: the same as the report, and so what demand 3 says of the two desks.
 -- Assumes nothing.
-use Prim.Native.Nat.{ℕ, _+_, _*_, _/_, _%_, _<_, _≤_}
+use Prim.Native.Nat.{ℕ, _/_, _%_, _<_, _≤_}
 use mathlib.Core.Path.{_≡_, refl, ap, sym, _∙_}
 use mathlib.Core.Bool.{true}
 use mathlib.Core.Logic.{_↔_, _≢_, ⊎-elim}
 use mathlib.Core.List.{List, []}
 use native.Mathlib.Nat.{eq-or-lt-of-le}
 use native.Mathlib.Omega.{arith}
-use borrow.Author.Tests.{ltb-true, ltb-false, lt-ltb, le-ltb, lt-leb, ne-eqb}
-use lib.Dec.{ltb}
+use borrow.Author.Tests.{ltb-true, ltb-false, eqb-true, eqb-false, lt-ltb, le-ltb, lt-leb, ne-eqb}
+use lib.Dec.{ltb, eqb}
 use lib.ListN.{length, getD, drop, List·getD-append}
 use Rattle.rules.specs.Sizes.{mostDesks, table}
 use Rattle.rules.specs.Setups.{accepted}
@@ -30,7 +30,7 @@ use Rattle.routes.specs.declared.RouteAnswer.{RouteAnswer}
 use Rattle.routes.specs.declared.RouteAnswer.the-variants.{NoRoute, Route}
 use Rattle.routes.proofs.Reports.{routed-none, routed-shown}
 use Rattle.routes.proofs.Demands.{no-route-exactly}
-use Rattle.grids.specs.Grids.{gridLength, gridRefusal, gridNumber, gridOver, gridded, roomAfter, GridTells}
+use Rattle.grids.specs.Grids.{gridLength, gridRefusal, gridNumber, gridPlace, gridOver, gridded, roomAfter, NumberTells, GridTells}
 use Rattle.grids.proofs.Squares.{row-of, column-of, place-lt}
 use Rattle.grids.proofs.Whole.{grid-sound, gridded-refused, room-refused, gridded-filled, room-filled}
 
@@ -62,7 +62,7 @@ module _ {links : Links} (among : AmongDesks mostDesks links) (a : ℕ) (l : a <
 
 -- what the run holds for desks a and b after the grid
 abbrev pub entryFor : Setup → List ℕ → ℕ → ℕ → ℕ
-entryFor s run a b = getD (roomAfter s run) (a * s .desks + b) 0
+entryFor s run a b = getD (roomAfter s run) (gridPlace (s .desks) a b) 0
 
 -- of a grid that is not refused: its setup is accepted, and the run is long enough
 module _ (s : Setup) (run : List ℕ) (unrefused : gridRefusal s (length run) ≡ 0) where
@@ -76,7 +76,7 @@ module _ (s : Setup) (run : List ℕ) (unrefused : gridRefusal s (length run) �
   unfolding gridOver
   entry-is a b l m =
       let n = gridLength s in
-      let i = a * s .desks + b in
+      let i = gridPlace (s .desks) a b in
       let number : ℕ → ℕ = λ k. gridNumber (linked s) (k / s .desks) (k % s .desks) in
       let inside = place-lt (s .desks) a b m l in
       ap (λ (xs : List ℕ). getD xs i 0) (room-filled s run unrefused)
@@ -130,11 +130,22 @@ module _ (s : Setup) (run : List ℕ) (unrefused : gridRefusal s (length run) �
                 absurd (omega arith),
           ))
 
--- the answer, and the run as the grid leaves it, tell of every two different desks whether the second can hear the first
-pub grid-tells : (s : Setup) (run : List ℕ) → GridTells s (gridded s (length run)) (roomAfter s run)
-grid-tells s run =
-    ⊎-elim (λ z. rw (gridded-filled s run (sym z)) (unheard-iff s run (sym z)))
+    -- so the report's answer is read off the entry, and whether desk b can hear desk a
+    pub entry-tells : NumberTells s a b (entryFor s run a b)
+    entry-tells =
+        let k = entryFor s run a b in
+        record {
+          report = λ room spacious.
+              by-test (eqb k 0) (λ t. rw t (no-route-iff room spacious .0 (eqb-true k 0 t)))
+              (λ t. rw t (route-iff room spacious k (omega (arith, eqb-false k 0 t)) .0 refl));
+          unheard = unheard-iff;
+        }
+
+-- the answer, and the room as the grid leaves it, tell what they promise of all desks
+pub grid-tells : (s : Setup) (room : List ℕ) → GridTells s (gridded s (length room)) (roomAfter s room)
+grid-tells s room =
+    ⊎-elim (λ z. rw (gridded-filled s room (sym z)) (entry-tells s room (sym z)))
     (λ h.
-    let given : gridRefusal s (length run) ≢ 0 = λ z. omega (arith, h, z) in
-    rw (gridded-refused s run given, room-refused s run given))
+    let given : gridRefusal s (length room) ≢ 0 = λ z. omega (arith, h, z) in
+    rw (gridded-refused s room given, room-refused s room given))
     (eq-or-lt-of-le (omega arith))

@@ -10,6 +10,7 @@ use lib.ListN.{length, getD, set, take, drop, length-set, length-drop, take-appe
 use lib.Seq.{ext-getD, getD-set-same, getD-set-other, getD-take, getD-drop, length-take-le}
 use Rattle.rules.specs.Sizes.{table}
 use Rattle.rules.proofs.Sizes.{table-is}
+use Rattle.grids.specs.Grids.{gridPlace}
 use Rattle.grids.specs.Columns.{withColumn}
 use Rattle.grids.proofs.Squares.{place-lt, same-row, same-column, row-lt, column-lt, place-again}
 
@@ -17,26 +18,26 @@ module _ (desks b : ℕ) (f : ℕ → ℕ) (room : List ℕ) where
   pub column-length : (n : ℕ) → length (withColumn desks b f n room) ≡ length room
   unfolding withColumn
   column-length zero = refl
-  column-length (suc n) = length-set (withColumn desks b f n room) (n * desks + b) (f n) ∙ column-length n
+  column-length (suc n) = length-set (withColumn desks b f n room) (gridPlace desks n b) (f n) ∙ column-length n
 
   -- a place that is none of the column's keeps its number
-  pub column-other : (n i : ℕ) → ((a : ℕ) → a < n → a * desks + b ≢ i) → getD (withColumn desks b f n room) i 0 ≡ getD room i 0
+  pub column-other : (n i : ℕ) → ((a : ℕ) → a < n → gridPlace desks a b ≢ i) → getD (withColumn desks b f n room) i 0 ≡ getD room i 0
   unfolding withColumn
   column-other zero i h = refl
   column-other (suc n) i h =
-      getD-set-other (withColumn desks b f n room) (n * desks + b) i (f n) 0 (λ e. h n (omega arith) (sym e))
+      getD-set-other (withColumn desks b f n room) (gridPlace desks n b) i (f n) 0 (λ e. h n (omega arith) (sym e))
       ∙ column-other n i (λ a l. h a (omega arith))
 
   -- and each of its own has the number of its row
-  pub column-at : b < desks → desks * desks ≤ length room → (n a : ℕ) → n ≤ desks → a < n → getD (withColumn desks b f n room) (a * desks + b) 0 ≡ f a
+  pub column-at : b < desks → desks * desks ≤ length room → (n a : ℕ) → n ≤ desks → a < n → getD (withColumn desks b f n room) (gridPlace desks a b) 0 ≡ f a
   unfolding withColumn
   column-at l room-for zero a m h = absurd (omega arith)
   column-at l room-for (suc n) a m h =
       let before = withColumn desks b f n room in
       ⊎-elim
-      (λ e. rw e (getD-set-same before (n * desks + b) (f n) 0 (omega (arith, column-length n, place-lt desks n b l m))))
+      (λ e. rw e (getD-set-same before (gridPlace desks n b) (f n) 0 (omega (arith, column-length n, place-lt desks n b l m))))
       (λ k.
-      getD-set-other before (n * desks + b) (a * desks + b) (f n) 0 (λ e. omega (arith, same-row desks a n b b l l e))
+      getD-set-other before (gridPlace desks n b) (gridPlace desks a b) (f n) 0 (λ e. omega (arith, same-row desks a n b b l l e))
       ∙ column-at l room-for n a (omega arith) k)
       (eq-or-lt-of-le (le-of-suc-le-suc h))
 
@@ -51,7 +52,7 @@ module _ {desks b : ℕ} {f : ℕ → ℕ} {lent : List ℕ} where
   unfolding withColumn
   standing-none = record { before = omega arith; long = refl; column = refl }
 
-  pub standing-more : {room : List ℕ} {a i x : ℕ} → Standing desks b f lent room a → a < desks → i ≡ a * desks + b → x ≡ f a
+  pub standing-more : {room : List ℕ} {a i x : ℕ} → Standing desks b f lent room a → a < desks → i ≡ gridPlace desks a b → x ≡ f a
       → Standing desks b f lent (set room i x) (a + 1)
   unfolding withColumn
   standing-more {room} {a} {i} {x} h l at e =
@@ -65,7 +66,7 @@ module _ {desks b : ℕ} {f : ℕ → ℕ} {lent : List ℕ} where
 pub record Grown (desks : ℕ) (g : ℕ → ℕ → ℕ) (lent room : List ℕ) (b : ℕ) : Type 0 where
   pub before : b ≤ desks
   pub long : length room ≡ length lent
-  pub numbers : (a d : ℕ) → a < desks → d < b → getD room (a * desks + d) 0 ≡ g a d
+  pub numbers : (a d : ℕ) → a < desks → d < b → getD room (gridPlace desks a d) 0 ≡ g a d
   pub past : (i : ℕ) → desks * desks ≤ i → getD room i 0 ≡ getD lent i 0
 
 module _ {desks : ℕ} {g : ℕ → ℕ → ℕ} {lent : List ℕ} where
@@ -82,7 +83,7 @@ module _ {desks : ℕ} {g : ℕ → ℕ → ℕ} {lent : List ℕ} where
         numbers = λ a d m k.
             ⊎-elim (λ z. rw z (column-at desks b _ room l (omega (arith, h .long)) desks a (omega arith) m))
             (λ m'.
-            column-other desks b _ room desks (a * desks + d) (λ c n z. omega (arith, same-column desks c a b d l (omega arith) z))
+            column-other desks b _ room desks (gridPlace desks a d) (λ c n z. omega (arith, same-column desks c a b d l (omega arith) z))
             ∙ h .numbers a d m m') (eq-or-lt-of-le (omega arith));
         past = λ i k. column-other desks b _ room desks i (λ c n z. omega (arith, place-lt desks c b l n)) ∙ h .past i k;
       })

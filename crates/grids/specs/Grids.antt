@@ -1,10 +1,10 @@
 -- 02, Req 01, "The whole desk grid at once": its refusals, its answer, and what the lent room holds after it.
-use Prim.Native.Nat.{ℕ, _+_, _*_, _/_, _%_, _<_}
+use Prim.Native.Nat.{ℕ, _+_, _*_, _/_, _%_, _<_, _≤_}
 use mathlib.Core.Path.{_≡_}
 use mathlib.Core.Bool.{cond}
 use mathlib.Core.Logic.{_↔_, _≢_}
 use mathlib.Core.List.{List, [], _∷_, _++_}
-use lib.Dec.{ltb}
+use lib.Dec.{ltb, eqb}
 use lib.ListN.{length, getD, drop}
 use Rattle.rules.specs.Sizes.{table}
 use Rattle.rules.specs.Refusals.{Refusal, _gives_, firstOf, refusal15}
@@ -12,7 +12,10 @@ use Rattle.rules.specs.Entries.{unless}
 use Rattle.rules.specs.Links.{linked}
 use Rattle.rules.specs.declared.Setup.{Setup}
 use Rattle.chains.specs.Chains.{Links, far, fewestLinks}
+use Rattle.demand.specs.Routes.{callsFor}
 use Rattle.demand.specs.Heard.{Unheard}
+use Rattle.routes.specs.Reports.{mostRouteNumbers, routed}
+use Rattle.routes.specs.declared.RouteAnswer.the-variants.{NoRoute, Route}
 use Rattle.grids.specs.declared.GridAnswer.{GridAnswer}
 use Rattle.grids.specs.declared.GridAnswer.the-variants.{Filled, Refused}
 
@@ -35,12 +38,15 @@ gridRefusal s room = firstOf (gridOrder s room)
 abbrev pub linksOrNone : ℕ → ℕ
 linksOrNone k = cond (ltb k far) k 0
 
--- "Each entry must equal what the single report finds for that pair": it is made of the report's number of links, which from a desk to
--- itself is 0 (`route-iff`, `no-route-iff` and `own-entry` say so of the entry)
+-- the number for desks a and b: it is made of the report's number of links, which from a desk to itself is 0
 abbrev pub gridNumber : Links → ℕ → ℕ → ℕ
 gridNumber links a b = linksOrNone (fewestLinks links a b)
 
--- as decided, "row A, column B: the number for A and B lies at A x D + B"; so place i is row i / D, column i % D
+-- as decided, "row A, column B: the number for A and B lies at A x D + B"
+abbrev pub gridPlace : ℕ → ℕ → ℕ → ℕ
+gridPlace desks a b = a * desks + b
+
+-- so at place i stands row i / D, column i % D
 unfoldable pub gridOver : Links → ℕ → List ℕ
 gridOver links desks = table (desks * desks) (λ i. gridNumber links (i / desks) (i % desks))
 
@@ -54,9 +60,16 @@ gridded s room =
 unfoldable pub roomAfter : Setup → List ℕ → List ℕ
 roomAfter s room = unless (gridRefusal s (length room)) (gridOver (linked s) (s .desks) ++ drop (gridLength s) room) room
 
--- what the grid tells of demand 3: of two different desks the number is 0 exactly where no list of calls lets b hear whether a's are in it
+-- what the number for two different desks tells
+pub record NumberTells (s : Setup) (a b number : ℕ) : Type 0 where
+  -- "Each entry must equal what the single report finds for that pair", in any room that is enough for a report
+  pub report : (room : List ℕ) → mostRouteNumbers ≤ length room → routed s a b (length room) ≡ cond (eqb number 0) NoRoute (Route (callsFor number))
+  -- demand 3: it is 0 exactly where no list of calls lets b hear whether a's are in it
+  pub unheard : (number ≡ 0) ↔ Unheard s a b
+
+-- what the answer and the room tell of all desks
 abbrev pub GridTells : Setup → GridAnswer → List ℕ → Type 0
-GridTells s (Filled n) room = (a b : ℕ) → a < s .desks → b < s .desks → a ≢ b → (getD room (a * s .desks + b) 0 ≡ 0) ↔ Unheard s a b
+GridTells s (Filled n) room = (a b : ℕ) → a < s .desks → b < s .desks → a ≢ b → NumberTells s a b (getD room (gridPlace (s .desks) a b) 0)
 GridTells s (Refused n) room = n ≡ gridRefusal s (length room)
 
 -- the answer as two numbers: 0 and D x D, or 01's 4 and the refusal

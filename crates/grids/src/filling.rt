@@ -4,11 +4,11 @@ use reaching::nearing::LINKS;
 use reaching::nearing::reach;
 ghost use mathlib.Core.Path.{_≡_};
 ghost use mathlib.Core.List.{_++_};
-ghost use Prim.Native.Nat.{_+_, _*_, _<_, _≤_};
+ghost use Prim.Native.Nat.{_*_, _<_, _≤_};
 ghost use lib.ListN.{length, drop};
 ghost use Rattle.rules.specs.Sizes.{mostDesks};
 ghost use Rattle.reaching.specs.Tables.{mostPairs, linksIn};
-ghost use Rattle.grids.specs.Grids.{linksOrNone, gridOver};
+ghost use Rattle.grids.specs.Grids.{linksOrNone, gridPlace, gridOver};
 ghost use Rattle.grids.specs.Columns.{columnOf, withColumn};
 
 // The number of links, and 0 for FAR, which is no route.
@@ -21,7 +21,7 @@ fn links_or_none(count: u8) -> u32
 // Where the number for desks a and b lies: row by the desk that is heard from.
 fn place_of(desks: usize, a: usize, b: usize) -> usize
     requires { ⌜ (desks ≤ mostDesks) × (a < desks) × (b < desks) ⌝ }
-    ensures { λ r. ⌜ r ≡ a * desks + b ⌝ }
+    ensures { λ r. ⌜ r ≡ gridPlace desks a b ⌝ }
     ensures inside { λ r. ⌜ r < desks * desks ⌝ }
 {
     a * desks + b

@@ -8,7 +8,7 @@ use second::call::{code, step, Answer, Call};
 use second::route::{chain, report, Report};
 use second::rules::Rules;
 use second::setup::Setup;
-use second::sizes::{ANSWER_WIDTH, CALLS_A_LINK, CALL_WIDTH, LINKS, ROUTE_NUMBERS};
+use second::sizes::{links_of, ANSWER_WIDTH, CALL_WIDTH, LINKS, ROUTE_NUMBERS};
 use second::store::Store;
 
 /// How many lists are searched for one setup and pair of desks.
@@ -129,7 +129,7 @@ impl Brute {
         match report(Rules::UNTURNED, &setup, a, b, &mut [0; ROUTE_NUMBERS]) {
             Report::NoRoute => self.search_silent(random, &setup, (a, b)),
             Report::Route(calls) => {
-                let links = (calls as usize - 1) / CALLS_A_LINK;
+                let links = links_of(calls) as usize;
                 self.search_route(random, &setup, (a, b), links);
             }
             Report::Refused(_) => {}

@@ -8,7 +8,7 @@ use crate::random::Random;
 use crate::reply::{number, GUARD_WORDS};
 use second::route::Report;
 use second::setup::Setup;
-use second::sizes::{ANSWER_WIDTH, CALLS_A_LINK, ROUTE_NUMBERS};
+use second::sizes::{calls_over, ANSWER_WIDTH, ROUTE_NUMBERS};
 
 /// One filled grid in so many is asked for pair by pair.
 const SHARE: usize = 24;
@@ -27,8 +27,7 @@ impl Single {
         };
         let due = match self.number {
             0 => Report::NoRoute,
-            // A wrong number may be any.
-            links => Report::Route(links.saturating_mul(CALLS_A_LINK as u32).saturating_add(1)),
+            links => Report::Route(calls_over(links)),
         };
         due.numbers().map(Some) == [number(found, 0), number(found, 1)]
     }
