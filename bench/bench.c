@@ -2,7 +2,8 @@
  *
  * A list of 1,024 mixed calls, of which most go through, is run from a fresh store by each form that the library has. Every
  * run is timed by itself, library and peer by turns, and the medians are compared. Then the stack that one call takes is
- * measured. Routes, a text and grids follow. Its exit status is 1 where an answer, a store or a lent room differs. */
+ * measured. Routes, a text and grids follow, and stores of any kind, which are compared and not timed. Its exit status is 1
+ * where an answer, a store or a lent room differs. */
 #include <stdio.h>
 #include <stdlib.h>
 #include <string.h>
@@ -27,6 +28,12 @@ static uint32_t below(uint32_t bound)
     state ^= state >> 17;
     state ^= state << 5;
     return (state >> 8) % bound;
+}
+
+/* One bit is changed. */
+static void damage(void *bytes, uint32_t len)
+{
+    ((uint8_t *)bytes)[below(len)] ^= (uint8_t)(1u << below(8));
 }
 
 /* As large as a setup can be. One right in sixteen is not both. */
@@ -85,6 +92,12 @@ static uint32_t holder_from(const dw_store *m, uint32_t f, uint32_t p)
     return holder != 0 ? holder - 1 : p;
 }
 
+/* One figure in four is 0. */
+static uint32_t any_figure(void)
+{
+    return below(4) == 0 ? 0 : below(1000000);
+}
+
 /* Any operation, its numbers then picked so that it is likely to go through. */
 static void pick_call(const dw_store *m, uint32_t *call)
 {
@@ -95,7 +108,7 @@ static void pick_call(const dw_store *m, uint32_t *call)
     switch (op) {
     case DW_WRITE:
     case DW_UNLOCK:
-        x = op == DW_WRITE ? below(1000000) : 0;
+        x = op == DW_WRITE ? any_figure() : 0;
         p = holder_from(m, f, p);
         f = file_from(m, f, 1);
         break;
@@ -476,7 +489,7 @@ static void compare_any_grids(void)
         make_any(&s);
         room_len = i % 2 == 0 ? GRID_ROOM : s.desks * s.desks - below(2);
         if (below(4) == 0)
-            ((uint8_t *)&s)[below(sizeof s)] ^= (uint8_t)(1u << below(8));
+            damage(&s, sizeof s);
         grid_time(OURS, &s, room_len);
         grid_time(PEERS, &s, room_len);
         compare_grid(PEERS);
@@ -490,6 +503,58 @@ static void measure_grids(void)
     measure_grid("grid, all rights set", make_full);
     measure_grid("grid, no rights", make_bare);
     compare_any_grids();
+}
+
+/* ---- Stores. The list starts from a fresh store of the largest setup, so that each store that it meets fits. Here others
+ * are compared, on setups of any counts. */
+
+enum { ANY_STORES = 4000 };
+
+/* In use: of the files some are unwritten and some written, with 0 too, some locked and some open. */
+static void make_any_store(const dw_setup *s, dw_store *m)
+{
+    memset(m, 0, sizeof *m);
+    for (uint32_t f = 0; f < s->files; f++) {
+        m->cells[f].written = below(2);
+        m->cells[f].figure = m->cells[f].written ? any_figure() : 0;
+        for (uint32_t p = 0; p < s->processes; p++) {
+            uint8_t right = s->rights[s->desk_of[p] * DW_CLASSES + s->class_of[f]];
+
+            m->holders[f] = right & DW_W && below(8) == 0 ? p + 1 : m->holders[f];
+            m->marks[DW_MARK(f, p)] = (uint8_t)(right & DW_R ? below(2) : 0);
+        }
+    }
+}
+
+/* One call on one store. */
+static void compare_call(const dw_setup *s, const dw_store *m, const uint32_t *c)
+{
+    dw_called our = dw_call(*s, *m, c[0], c[1], c[2], c[3]);
+    dw_store peer_store = *m;
+    dw_answer peer = peer_call(s, &peer_store, c[0], c[1], c[2], c[3]);
+
+    differs |= memcmp(&our.answer, &peer, sizeof peer) != 0;
+    differs |= memcmp(&our.store, &peer_store, sizeof peer_store) != 0;
+}
+
+/* Each as it is, with a bit changed anywhere, and with one changed among its cells. */
+static void compare_any_stores(void)
+{
+    for (int i = 0; i < ANY_STORES; i++) {
+        uint32_t call[DW_CALL_WIDTH];
+        dw_store m, damaged;
+        dw_setup s;
+
+        make_any(&s);
+        make_any_store(&s, &m);
+        pick_call(&m, call);
+        compare_call(&s, &m, call);
+        damaged = m;
+        damage(&damaged, sizeof damaged);
+        compare_call(&s, &damaged, call);
+        damage(m.cells, sizeof m.cells);
+        compare_call(&s, &m, call);
+    }
 }
 
 /* ---- Texts: as large as the program takes, but for a few bytes. */
@@ -658,6 +723,7 @@ int main(void)
     measure_route("route at once, beside a line", make_shortcut, 0, DW_DESKS - 1);
     measure_text();
     measure_grids();
+    compare_any_stores();
     if (went * 2 < DW_CALLS) {
         printf("FAILED: fewer than half of the calls go through\n");
         return 1;

@@ -39,11 +39,22 @@ static uint8_t right_of(const dw_setup *s, uint32_t p, uint32_t f)
     return s->rights[s->desk_of[p] * DW_CLASSES + s->class_of[f]];
 }
 
-static int file_is_blank(const dw_store *m, uint32_t f)
+static int is_blank(const dw_cell *c)
 {
-    return m->holders[f] == 0 && m->figures[f] == 0 && entries_fit(m->marks + DW_MARK(f, 0), DW_PROCESSES, 0, 0);
+    return c->figure == 0 && c->written == 0;
 }
 
+static int cell_fits(const dw_cell *c)
+{
+    return c->written == 1 || is_blank(c);
+}
+
+static int file_is_blank(const dw_store *m, uint32_t f)
+{
+    return m->holders[f] == 0 && is_blank(&m->cells[f]) && entries_fit(m->marks + DW_MARK(f, 0), DW_PROCESSES, 0, 0);
+}
+
+/* The cell comes last: with the same check before the marks, other code came out, and each call took 1.6 times as long. */
 static int file_fits(const dw_setup *s, const dw_store *m, uint32_t f)
 {
     const uint8_t *marks = m->marks + DW_MARK(f, 0);
@@ -59,7 +70,7 @@ static int file_fits(const dw_setup *s, const dw_store *m, uint32_t f)
     for (uint32_t p = s->processes; p < DW_PROCESSES; p++)
         if (marks[p] != 0)
             return 0;
-    return 1;
+    return cell_fits(&m->cells[f]);
 }
 
 static int store_fits(const dw_setup *s, const dw_store *m)
@@ -111,7 +122,7 @@ static void copy(const dw_setup *s, dw_store *m, uint32_t p, uint32_t f, uint32_
 {
     if (right_of(s, p, f) & DW_R && right_of(s, p, x) & DW_W && m->marks[DW_MARK(f, p)] &&
         free_for(m->holders[f], p) && m->holders[x] == p + 1)
-        m->figures[x] = m->figures[f];
+        m->cells[x] = m->cells[f];
 }
 
 /* A call on a setup and a store that were judged. */
@@ -130,12 +141,12 @@ static dw_answer step(const dw_setup *s, dw_store *m, uint32_t op, uint32_t p, u
     w = right_of(s, p, f) & DW_W;
     switch (op) {
     case DW_READ:
-        if (r && *mark && free_for(*holder, p))
-            return answer(DW_FIGURE, m->figures[f]);
+        if (r && *mark && free_for(*holder, p) && m->cells[f].written)
+            return answer(DW_FIGURE, m->cells[f].figure);
         break;
     case DW_WRITE:
         if (w && *holder == p + 1)
-            m->figures[f] = x;
+            m->cells[f] = (dw_cell){.figure = x, .written = 1};
         break;
     case DW_LOCK:
         if (w && *holder == 0)

@@ -1,6 +1,7 @@
-/* A host in C: accepts a setup, keeps one store in its memory, and lends it for nine calls. They carry a figure from desk 0
- * over desk 1 to desk 2, which has no right on the file that desk 0 writes. Then it asks for routes between the desks, and
- * for the number of links from every desk to every desk at once.
+/* A host in C: accepts a setup, keeps one store in its memory, and lends it for ten calls. The first two have desk 2 read a
+ * file before anything was written. The others carry a figure from desk 0 over desk 1 to desk 2, which has no right on the
+ * file that desk 0 writes. Then it asks for routes between the desks, and for the number of links from every desk to every
+ * desk at once.
  *
  * bin/host-example builds and runs it. With a C compiler on x86-64 Linux, after `rt staticlib dirgewater`:
  *     cc -Iinclude examples/host.c target/staticlib/libdirgewater.a -o host && ./host
@@ -22,6 +23,8 @@ static const struct call {
     const char *name;
     uint32_t op, p, f, x;
 } calls[] = {
+    {"open", DW_OPEN, 2, 1, 0},
+    {"read", DW_READ, 2, 1, 0}, /* nothing; it would be figure 0 had a 0 been written */
     {"lock", DW_LOCK, 0, 0, 0},
     {"write", DW_WRITE, 0, 0, 1},
     {"unlock", DW_UNLOCK, 0, 0, 0},
@@ -29,7 +32,6 @@ static const struct call {
     {"lock", DW_LOCK, 1, 1, 0},
     {"copy", DW_COPY, 1, 0, 1},
     {"unlock", DW_UNLOCK, 1, 1, 0},
-    {"open", DW_OPEN, 2, 1, 0},
     {"read", DW_READ, 2, 1, 0},
 };
 
@@ -44,6 +46,15 @@ static void print_answer(const char *name, dw_answer answer)
     if (answer.kind == DW_FIGURE || answer.kind == DW_REFUSED)
         printf("\t%u", answer.value);
     printf("\n");
+}
+
+/* A host that looks into its store asks the written mark first: the figure of an unwritten file is 0 too. */
+static void print_file(uint32_t f)
+{
+    if (store.cells[f].written)
+        printf("file %u holds\t%u\n", f, store.cells[f].figure);
+    else
+        printf("file %u holds\tnothing\n", f);
 }
 
 static void print_route(dw_setup setup, uint32_t a, uint32_t b)
@@ -91,13 +102,14 @@ int main(void)
         return 1;
     }
     store = fresh.store;
+    print_file(1);
     for (size_t i = 0; i < sizeof calls / sizeof calls[0]; i++) {
         const struct call *c = &calls[i];
         print_answer(c->name, dw_call_in_place(accepted.setup, &store, c->op, c->p, c->f, c->x));
     }
     /* No process 3 is in the setup: the call is refused, and the store stays as it was. */
     print_answer("read", dw_call_in_place(accepted.setup, &store, DW_READ, 3, 1, 0));
-    printf("file 1 holds\t%u\n", store.figures[1]);
+    print_file(1);
     print_route(accepted.setup, 0, 2);
     print_route(accepted.setup, 2, 0);
     print_route(accepted.setup, 1, 1);

@@ -1,8 +1,9 @@
 /* Dirgewater for C: a proved store of sheets, as the static library libdirgewater.a.
  *
  * A setup fixes desks, classes, processes, files, and what each desk may do with each class. A store
- * holds, for each file, who has it locked, who has it open, and one figure. A host accepts a setup,
- * makes a fresh store for it, keeps that store in its own memory, and lends it for each call.
+ * holds, for each file, who has it locked, who has it open, and a cell: one figure, and whether it was
+ * written. A host accepts a setup, makes a fresh store for it, keeps that store in its own
+ * memory, and lends it for each call.
  *
  * What is promised. Each function below is proved to give exactly what its comment says, refusals
  * too, and to end, for every value of every number and of every struct. That the structs of this header
@@ -53,7 +54,7 @@ extern "C" {
 
 /* The version of this header. It goes up when a struct, a function or a meaning changes; a library is built with the
  * header that it comes with. */
-#define DW_VERSION 2
+#define DW_VERSION 3
 
 /* ---- Sizes: the most of each thing. There is at least one of each, but a list of calls may be empty. */
 
@@ -98,15 +99,16 @@ extern "C" {
 /* A call is an operation, a process p, a file f and an extra number x. R and W are those of p's desk
  * on the file's class. A call goes through when what stands after its name holds; otherwise the store
  * stays as it is, and the answer is DW_NOTHING. */
-#define DW_READ 1     /* R; p has f open; f is unlocked or locked by p: answers the figure */
-#define DW_WRITE 2    /* W; f is locked by p: the figure of f becomes x */
+#define DW_READ 1     /* R; p has f open; f is unlocked or locked by p: answers the figure, or
+                         DW_NOTHING where f is unwritten */
+#define DW_WRITE 2    /* W; f is locked by p: the figure of f becomes x, and f is written, with an x of 0 too */
 #define DW_LOCK 3     /* W; f is unlocked: f is locked by p */
 #define DW_UNLOCK 4   /* W; f is locked by p: f is unlocked */
 #define DW_OPEN 5     /* R; f is unlocked: p has f open */
 #define DW_CLOSE 6    /* R; p has f open: p no longer has it open */
 #define DW_TESTLOCK 7 /* R and W: answers yes if f is locked by p, else no */
 #define DW_COPY 8     /* R on f; W on file x; p has f open; f is unlocked or locked by p; x is locked
-                         by p: the figure of x becomes that of f */
+                         by p: the cell of x becomes that of f, so x is unwritten where f is */
 
 /* The kind of an answer. The operations other than READ and TESTLOCK answer DW_NOTHING whether or not
  * they went through. */
@@ -158,25 +160,34 @@ typedef struct dw_setup {
     uint8_t class_of[DW_FILES];     /* the class of each file */
 } dw_setup;                         /* 368 bytes */
 
+/* What a file holds. A file is unwritten at first, and again after COPY from an unwritten file; WRITE, and COPY from a
+ * written file, make it written. A written 0 is a figure like any other. */
+typedef struct dw_cell {
+    uint32_t figure;                /* 0 in an unwritten file */
+    uint32_t written;               /* 1 in a written file, 0 in an unwritten one */
+} dw_cell;                          /* 8 bytes */
+
 /* A store fits its setup when each locked file is held by an existing process whose desk has W on the
  * file's class, each process that has a file open exists and its desk has R on that class, open marks
- * are 0 or 1, and all that lies past the files is 0. Every call keeps a store fitting. */
+ * are 0 or 1, each file's written mark is 0 or 1 and an unwritten file's figure is 0, and all that lies
+ * past the files is 0. Every call keeps a store fitting. No byte lies between the fields, so two stores can be
+ * compared byte by byte. */
 typedef struct dw_store {
     uint32_t holders[DW_FILES];     /* 0 for unlocked, else the process that has the file locked, plus one */
-    uint32_t figures[DW_FILES];
+    dw_cell cells[DW_FILES];        /* what each file holds */
     uint8_t marks[DW_MARKS];        /* 1 where process p has file f open, else 0, at DW_MARK(f, p) */
-} dw_store;                         /* 2304 bytes */
+} dw_store;                         /* 2432 bytes */
 
 typedef struct dw_given_setup {
     uint32_t refusal;               /* 0 where a setup is given */
     dw_setup setup;                 /* else all of it is 0, which no function takes for a setup */
 } dw_given_setup;                   /* 372 bytes */
 
-/* Where no store is given, one lies there that fits no setup: nothing locked, all figures 0, all open marks 2. */
+/* Where no store is given, one lies there that fits no setup: nothing locked, nothing written, all open marks 2. */
 typedef struct dw_given_store {
     uint32_t refusal;               /* 0 where a store is given */
     dw_store store;
-} dw_given_store;                   /* 2308 bytes */
+} dw_given_store;                   /* 2436 bytes */
 
 typedef struct dw_answer {
     uint32_t kind;                  /* DW_NOTHING to DW_REFUSED */
@@ -187,13 +198,13 @@ typedef struct dw_answer {
 typedef struct dw_called {
     dw_answer answer;
     dw_store store;
-} dw_called;                        /* 2312 bytes */
+} dw_called;                        /* 2440 bytes */
 
 /* What became of a list as a whole, and the store after it. */
 typedef struct dw_listed {
     dw_answer answer;               /* DW_DONE and the number of calls run; or DW_REFUSED and the number */
     dw_store store;
-} dw_listed;                        /* 2312 bytes */
+} dw_listed;                        /* 2440 bytes */
 
 /* What became of a text, and the setup that was read. The offset of a refusal is that of the faulty line's first byte, for a
  * missing line the text's length, and 0 for too little room. */
@@ -213,7 +224,7 @@ dw_given_setup dw_accept(uint32_t desks, uint32_t classes, uint32_t processes, u
                          const uint8_t *desk_of, size_t desk_of_len,
                          const uint8_t *class_of, size_t class_of_len);
 
-/* A fresh store: nothing locked, nothing open, all figures 0. Refusal: 15. */
+/* A fresh store: nothing locked, nothing open, nothing written. Refusal: 15. */
 dw_given_store dw_fresh(dw_setup setup);
 
 /* 0 where the setup could have been accepted and the store fits it; else 15 or 16, in this order. */
@@ -242,7 +253,7 @@ dw_listed dw_run(dw_setup setup, dw_store store, const uint32_t *calls, size_t c
  * does not exist belongs to none. Where nothing is refused, DW_NO_ROUTE is answered exactly when, for every list of calls from a
  * fresh store, striking out a's calls changes none of b's answers. Otherwise a list of calls that shows
  * the difference is written to the front of room, four numbers a call, for dw_run: run from a fresh store
- * it gives b a last answer of figure 1, and of figure 0 with a's calls struck out.
+ * it gives b a last answer of figure 1, and of DW_NOTHING with a's calls struck out.
  * A link runs from desk d to desk e when d has W and e has R on the class of some file, and each of the
  * two has a process. The list goes along the chain of fewest links from a to b, among those the one with
  * the smallest desk at the first difference. Each desk acts by its lowest process, each link uses the

@@ -19,13 +19,17 @@
 enum {
     COUNTS = 4, /* of desks, classes, processes, files */
     SETUP_BYTES = ALIGNED(uint32_t, NUMBERS(COUNTS) + DW_DESKS * DW_CLASSES + DW_PROCESSES + DW_FILES),
-    STORE_BYTES = ALIGNED(uint32_t, NUMBERS(DW_FILES) + NUMBERS(DW_FILES) + DW_FILES * DW_PROCESSES),
+    CELL_WIDTH = 2, /* a figure, and its written mark */
+    CELL_BYTES = NUMBERS(CELL_WIDTH),
+    CELLS_AT = NUMBERS(DW_FILES), /* past the holders */
+    STORE_BYTES = ALIGNED(uint32_t, CELLS_AT + DW_FILES * CELL_BYTES + DW_FILES * DW_PROCESSES),
     ANSWER_BYTES = NUMBERS(DW_ANSWER_WIDTH),
     TEXT_BYTES = ALIGNED(size_t, ANSWER_BYTES + sizeof(size_t) + SETUP_BYTES)
 };
 
 _Static_assert(sizeof(dw_setup) == SETUP_BYTES, "the counts, and a byte for each right, process and file");
-_Static_assert(sizeof(dw_store) == STORE_BYTES, "a holder and a figure for each file, and the marks");
+_Static_assert(sizeof(dw_cell) == CELL_BYTES, "a figure and its written mark");
+_Static_assert(sizeof(dw_store) == STORE_BYTES, "a holder and a cell for each file, and the open marks");
 _Static_assert(sizeof(dw_given_setup) == NUMBERS(1) + SETUP_BYTES, "a number, and the setup that is given");
 _Static_assert(sizeof(dw_given_store) == NUMBERS(1) + STORE_BYTES, "a number, and the store that is given");
 _Static_assert(sizeof(dw_answer) == ANSWER_BYTES, "a kind and a value");
@@ -104,6 +108,33 @@ static dw_setup whole_setup(void)
     return s;
 }
 
+static const dw_cell unwritten_cell;
+
+static dw_cell written_cell(uint32_t figure)
+{
+    dw_cell c;
+
+    c.figure = figure;
+    c.written = 1;
+    return c;
+}
+
+/* Each figure another; but of so many files one is unwritten and one holds a written 0, so that written mark and figure
+ * are told apart. */
+enum { CELLS_APART = 5 };
+
+static dw_cell cell_at(uint32_t f)
+{
+    switch (f % CELLS_APART) {
+    case 0:
+        return unwritten_cell;
+    case 2:
+        return written_cell(0);
+    default:
+        return written_cell(0x01020304u * (f + 1) + 0x80u);
+    }
+}
+
 static dw_store blank_store(void)
 {
     dw_store m;
@@ -116,13 +147,13 @@ static dw_store blank_store(void)
  * them each mark would take longer. It is a prime, so that no two files have the same. */
 enum { MARKS_APART = 251 };
 
-/* Each figure another, and open marks in no order. */
+/* Each cell another than its neighbours, and open marks in no order. */
 static dw_store opened_store(void)
 {
     dw_store m = blank_store();
 
     for (uint32_t f = 0; f < DW_FILES; f++)
-        m.figures[f] = 0x01020304u * (f + 1) + 0x80u;
+        m.cells[f] = cell_at(f);
     for (uint32_t i = 0; i < DW_MARKS; i++)
         m.marks[i] = i < MARKS_APART ? (uint8_t)below(2) : m.marks[i - MARKS_APART];
     return m;
@@ -150,6 +181,16 @@ static uint8_t right_of(const dw_setup *s, uint32_t p, uint32_t f)
 static int is_answer(dw_answer a, uint32_t kind, uint32_t value)
 {
     return a.kind == kind && a.value == value;
+}
+
+/* What a READ that goes through answers: the figure, 0 too, but nothing where none was written. */
+static dw_answer reading_of(dw_cell c)
+{
+    dw_answer a;
+
+    a.kind = c.written ? DW_FIGURE : DW_NOTHING;
+    a.value = c.written ? c.figure : 0;
+    return a;
 }
 
 static int same_store(const dw_store *one, const dw_store *other)
@@ -336,20 +377,17 @@ static void reads_rights(void)
 
 /* ---- What the library reads of a store. */
 
-/* READ answers the file's own figure to each process that has it open, and to no other. */
-static void reads_figures_and_marks(void)
+/* READ tells the file's own cell to each process that has it open, and to no other. */
+static void reads_cells_and_marks(void)
 {
     dw_setup s = whole_setup();
     dw_store m = opened_store();
 
     for (uint32_t i = 0; i < PLACES; i++) {
         struct place at = place_tried(i);
-        dw_answer a = dw_call(s, m, DW_READ, at.p, at.f, 0).answer;
+        dw_answer due = reading_of(m.marks[DW_MARK(at.f, at.p)] ? m.cells[at.f] : unwritten_cell);
 
-        if (m.marks[DW_MARK(at.f, at.p)])
-            CHECK(is_answer(a, DW_FIGURE, m.figures[at.f]));
-        else
-            CHECK(is_answer(a, DW_NOTHING, 0));
+        CHECK(is_answer(dw_call(s, m, DW_READ, at.p, at.f, 0).answer, due.kind, due.value));
     }
 }
 
@@ -368,24 +406,55 @@ static void reads_holders(void)
     }
 }
 
-/* Whether a store with one number changed still fits. */
-static uint32_t judged_with(const dw_setup *s, dw_store *m, uint32_t *number, uint32_t value)
+/* Whether a store with one holder changed still fits. */
+static uint32_t judged_with_holder(const dw_setup *s, dw_store *m, uint32_t f, uint32_t holder)
 {
-    uint32_t was = *number, refusal;
+    uint32_t was = m->holders[f], refusal;
 
-    *number = value;
+    m->holders[f] = holder;
     refusal = dw_judge(*s, *m);
-    *number = was;
+    m->holders[f] = was;
     return refusal;
 }
 
-static void judges_numbers(const dw_setup *s, dw_store *m, uint32_t f)
+static void judges_holder(const dw_setup *s, dw_store *m, uint32_t f)
 {
     uint32_t p = f * 2 % P;
 
-    CHECK(judged_with(s, m, &m->figures[f], 0xFFFFFFFFu) == (f < F ? 0 : 16));
-    CHECK(judged_with(s, m, &m->holders[f], P + 1) == DW_REFUSAL_STORE);
-    CHECK(judged_with(s, m, &m->holders[f], p + 1) == (f < F && right_of(s, p, f) & DW_W ? 0 : 16));
+    CHECK(judged_with_holder(s, m, f, P + 1) == DW_REFUSAL_STORE);
+    CHECK(judged_with_holder(s, m, f, p + 1) == (f < F && right_of(s, p, f) & DW_W ? 0 : 16));
+}
+
+static uint32_t judged_with_cell(const dw_setup *s, dw_store *m, uint32_t f, uint32_t figure, uint32_t written)
+{
+    dw_cell was = m->cells[f];
+    uint32_t refusal;
+
+    m->cells[f].figure = figure;
+    m->cells[f].written = written;
+    refusal = dw_judge(*s, *m);
+    m->cells[f] = was;
+    return refusal;
+}
+
+/* Any figure may be written, but only before the files' end. A figure that was not written fits nowhere, nor does a written
+ * mark above 1. Some have 0 or 1 for their low byte or low half, so that a library that looked there alone would be seen. */
+static void judges_cell(const dw_setup *s, dw_store *m, uint32_t f)
+{
+    static const uint32_t figures[] = {1, 2, 0x100, 0x10000, 0x80000000u, 0xFFFFFFFFu};
+    static const uint32_t unfit_marks[] = {2, 3, 0x100, 0x101, 0x10000, 0x10001, 0x80000000u, 0xFFFFFFFFu};
+    uint32_t if_written = f < F ? 0 : DW_REFUSAL_STORE;
+
+    CHECK(judged_with_cell(s, m, f, 0, 0) == 0);
+    CHECK(judged_with_cell(s, m, f, 0, 1) == if_written);
+    for (uint32_t i = 0; i < LEN(figures); i++) {
+        CHECK(judged_with_cell(s, m, f, figures[i], 0) == DW_REFUSAL_STORE);
+        CHECK(judged_with_cell(s, m, f, figures[i], 1) == if_written);
+    }
+    for (uint32_t i = 0; i < LEN(unfit_marks); i++) {
+        CHECK(judged_with_cell(s, m, f, 0, unfit_marks[i]) == DW_REFUSAL_STORE);
+        CHECK(judged_with_cell(s, m, f, 1, unfit_marks[i]) == DW_REFUSAL_STORE);
+    }
 }
 
 static void judges_mark(const dw_setup *s, dw_store *m, uint32_t f, uint32_t p)
@@ -399,13 +468,13 @@ static void judges_mark(const dw_setup *s, dw_store *m, uint32_t f, uint32_t p)
     *mark = 0;
 }
 
-/* Each file has a figure, is open for all that may read it, and is locked by the last that may write it. */
+/* Each file was written, is open for all that may read it, and is locked by the last that may write it. */
 static dw_store fullest_store(const dw_setup *s)
 {
     dw_store m = blank_store();
 
     for (uint32_t f = 0; f < s->files; f++) {
-        m.figures[f] = 0xFFFFFFFFu;
+        m.cells[f] = written_cell(0xFFFFFFFFu);
         for (uint32_t p = 0; p < s->processes; p++) {
             m.holders[f] = right_of(s, p, f) & DW_W ? p + 1 : m.holders[f];
             m.marks[DW_MARK(f, p)] = right_of(s, p, f) & DW_R ? 1 : 0;
@@ -414,16 +483,22 @@ static dw_store fullest_store(const dw_setup *s)
     return m;
 }
 
-/* All that may be set fits at once; then one number or mark by itself, before and past the files, fits or does not. */
+/* All that may be set fits at once; then one holder, cell or mark by itself, before and past the files, fits or does not.
+ * A cell is judged among cells that were written too. */
 static void judges_every_field(void)
 {
     dw_setup s = part_setup();
-    dw_store m = blank_store();
+    dw_store m = blank_store(), fullest = fullest_store(&s);
 
     CHECK(dw_judge(s, m) == 0);
-    CHECK(dw_judge(s, fullest_store(&s)) == 0);
-    for (uint32_t i = 0; i < FILES_TRIED; i++)
-        judges_numbers(&s, &m, file_tried(i));
+    CHECK(dw_judge(s, fullest) == 0);
+    for (uint32_t i = 0; i < FILES_TRIED; i++) {
+        uint32_t f = file_tried(i);
+
+        judges_holder(&s, &m, f);
+        judges_cell(&s, &m, f);
+        judges_cell(&s, &fullest, f);
+    }
     for (uint32_t i = 0; i < PLACES; i++) {
         struct place at = place_tried(i);
 
@@ -509,7 +584,8 @@ static void gives_stores(void)
     given = dw_fresh(s);
     CHECK(given.refusal == DW_REFUSAL_SETUP);
     for (uint32_t f = 0; f < DW_FILES; f++) {
-        CHECK(given.store.holders[f] == 0 && given.store.figures[f] == 0);
+        CHECK(given.store.holders[f] == 0);
+        CHECK(given.store.cells[f].figure == 0 && given.store.cells[f].written == 0);
         for (uint32_t p = 0; p < DW_PROCESSES; p++)
             CHECK(given.store.marks[DW_MARK(f, p)] == 2);
     }
@@ -551,21 +627,47 @@ static void call_gives(dw_setup s, dw_store m, struct numbers n, uint32_t kind, 
     CHECK(has_guard(lent.before) && has_guard(lent.after));
 }
 
-/* The calls of the process that has file f locked, on a store all of whose numbers differ. */
+/* READ tells what the file holds, and changes nothing. */
+static void read_gives(const dw_setup *s, const dw_store *m, uint32_t p, uint32_t f)
+{
+    dw_answer due = reading_of(m->cells[f]);
+
+    call_gives(*s, *m, call_of(DW_READ, p, f, 0), due.kind, due.value, m);
+}
+
+/* WRITE leaves a file written, with a figure of 0 too. */
+static void write_gives(const dw_setup *s, const dw_store *m, uint32_t p, uint32_t f, uint32_t figure)
+{
+    dw_store next = *m;
+
+    next.cells[f] = written_cell(figure);
+    call_gives(*s, *m, call_of(DW_WRITE, p, f, figure), DW_NOTHING, 0, &next);
+    read_gives(s, &next, p, f);
+}
+
+/* COPY leaves the one file with all that the other holds, which may be nothing. */
+static void copy_gives(const dw_setup *s, const dw_store *m, uint32_t p, uint32_t f, uint32_t x)
+{
+    dw_store next = *m;
+
+    next.cells[x] = m->cells[f];
+    call_gives(*s, *m, call_of(DW_COPY, p, f, x), DW_NOTHING, 0, &next);
+}
+
+/* The calls of the process that has file f locked and open, on a store whose neighbouring cells differ. */
 static void holder_calls(const dw_setup *s, const dw_store *m, uint32_t f)
 {
     uint32_t p = m->holders[f] - 1;
     dw_store next = *m;
 
-    next.figures[f] = 0xFEDCBA98u;
-    call_gives(*s, *m, call_of(DW_WRITE, p, f, 0xFEDCBA98u), DW_NOTHING, 0, &next);
-    next = *m;
+    write_gives(s, m, p, f, 0xFEDCBA98u);
+    write_gives(s, m, p, f, 0);
     next.holders[f] = 0;
     call_gives(*s, *m, call_of(DW_UNLOCK, p, f, 0), DW_NOTHING, 0, &next);
     next = *m;
     next.marks[DW_MARK(f, p)] = 0;
     call_gives(*s, *m, call_of(DW_CLOSE, p, f, 0), DW_NOTHING, 0, &next);
-    call_gives(*s, *m, call_of(DW_READ, p, f, 0), DW_FIGURE, m->figures[f], m);
+    read_gives(s, m, p, f);
     call_gives(*s, *m, call_of(DW_TESTLOCK, p, f, 0), DW_YES, 0, m);
     call_gives(*s, *m, call_of(DW_TESTLOCK, (p + 1) % DW_PROCESSES, f, 0), DW_NO, 0, m);
 }
@@ -583,12 +685,10 @@ static void other_calls(const dw_setup *s, const dw_store *m, uint32_t f)
     call_gives(*s, now, call_of(DW_OPEN, p, f, 0), DW_NOTHING, 0, &next);
     call_gives(*s, now, call_of(DW_READ, p, f, 0), DW_NOTHING, 0, &now);
     now = next;
-    call_gives(*s, now, call_of(DW_READ, p, f, 0), DW_FIGURE, now.figures[f], &now);
+    read_gives(s, &now, p, f);
     next.holders[f] = p + 1;
     call_gives(*s, now, call_of(DW_LOCK, p, f, 0), DW_NOTHING, 0, &next);
-    next = now;
-    next.figures[x] = now.figures[f];
-    call_gives(*s, now, call_of(DW_COPY, p, f, x), DW_NOTHING, 0, &next);
+    copy_gives(s, &now, p, f, x);
 }
 
 static void calls_change_one_field(void)
@@ -604,20 +704,69 @@ static void calls_change_one_field(void)
     }
 }
 
+/* Process p has both files open and file x locked. Any of these cells lies in the one file, and any in the other. */
+static void cells_meet(const dw_setup *s, uint32_t p, uint32_t f, uint32_t x)
+{
+    static const dw_cell cells[] = {{.written = 0}, {.written = 1}, {.written = 1, .figure = 1},
+                                    {.written = 1, .figure = 256}};
+    dw_store m = blank_store();
+
+    m.holders[x] = p + 1;
+    m.marks[DW_MARK(f, p)] = m.marks[DW_MARK(x, p)] = 1;
+    for (uint32_t i = 0; i < LEN(cells); i++)
+        for (uint32_t j = 0; j < LEN(cells); j++) {
+            m.cells[f] = cells[i];
+            m.cells[x] = cells[j];
+            read_gives(s, &m, p, f);
+            read_gives(s, &m, p, x);
+            write_gives(s, &m, p, x, cells[i].figure);
+            copy_gives(s, &m, p, f, x);
+        }
+}
+
+/* Written mark and figure go together, whatever lay there before: after COPY of an unwritten file the other is unwritten. */
+static void written_marks_go_with_figures(void)
+{
+    dw_setup s = whole_setup();
+
+    cells_meet(&s, 0, 0, DW_FILES - 1);
+    cells_meet(&s, DW_PROCESSES - 1, DW_FILES - 1, DW_FILES / 2);
+}
+
+/* Where a file's two numbers lie, whatever the header calls them: the store is the library's own, from a fresh one on. */
+static void cells_lie_by_file(void)
+{
+    dw_setup s = whole_setup();
+
+    for (uint32_t i = 0; i < FILES_TRIED; i++) {
+        uint32_t f = file_tried(i), figure = 0xFEDCBA00u + f, cell[CELL_WIDTH];
+        dw_store m = dw_call(s, dw_fresh(s).store, DW_LOCK, 0, f, 0).store;
+
+        memcpy(cell, (uint8_t *)&m + CELLS_AT + f * CELL_BYTES, CELL_BYTES);
+        CHECK(cell[0] == 0 && cell[1] == 0);
+        m = dw_call(s, m, DW_WRITE, 0, f, figure).store;
+        memcpy(cell, (uint8_t *)&m + CELLS_AT + f * CELL_BYTES, CELL_BYTES);
+        CHECK(cell[0] == figure && cell[1] == 1);
+    }
+}
+
 static void refused_calls_change_nothing(void)
 {
     dw_setup s = part_setup();
     dw_store m = blank_store();
 
     for (uint32_t f = 0; f < F; f++)
-        m.figures[f] = 0x01010101u * (f + 1);
+        m.cells[f] = cell_at(f);
     call_gives(s, m, call_of(0, P, F, 1), DW_REFUSED, DW_REFUSAL_OPERATION, &m);
     call_gives(s, m, call_of(DW_READ, P, F, 1), DW_REFUSED, DW_REFUSAL_PROCESS, &m);
     call_gives(s, m, call_of(DW_READ, P - 1, F, 1), DW_REFUSED, DW_REFUSAL_FILE, &m);
     call_gives(s, m, call_of(DW_COPY, P - 1, F - 1, F), DW_REFUSED, DW_REFUSAL_FILE, &m);
     call_gives(s, m, call_of(DW_READ, P - 1, F - 1, 1), DW_REFUSED, DW_REFUSAL_EXTRA, &m);
     call_gives(s, m, call_of(DW_COPY, P - 1, F - 1, F - 1), DW_REFUSED, DW_REFUSAL_COPY, &m);
-    m.figures[F] = 1;
+    m.cells[F].written = 1;
+    call_gives(s, m, call_of(0, P, F, 1), DW_REFUSED, DW_REFUSAL_STORE, &m);
+    m.cells[F].written = 0;
+    m.cells[0].figure = 1; /* and not written */
     call_gives(s, m, call_of(0, P, F, 1), DW_REFUSED, DW_REFUSAL_STORE, &m);
     s.processes = 0;
     call_gives(s, m, call_of(0, P, F, 1), DW_REFUSED, DW_REFUSAL_SETUP, &m);
@@ -638,7 +787,7 @@ static void make_list(void)
         list.numbers[i] = op;
         list.numbers[i + 1] = below(DW_PROCESSES + 1);
         list.numbers[i + 2] = f;
-        list.numbers[i + 3] = op == DW_WRITE ? below(1000) : op == DW_COPY ? below(DW_FILES) : 0;
+        list.numbers[i + 3] = op == DW_WRITE ? below(2) * below(1000) : op == DW_COPY ? below(DW_FILES) : 0;
     }
 }
 
@@ -730,13 +879,16 @@ static void refused_lists_write_nothing(void)
     list_is_refused(s, m, TWO_CALLS + 1, CALLS_LEN, 10);
     list_is_refused(s, m, (DW_CALLS + 1) * DW_CALL_WIDTH, CALLS_LEN, 10);
     list_is_refused(s, m, TWO_CALLS, TWO_ANSWERS - 1, 11);
+    m.cells[3].written = 2;
+    list_is_refused(s, m, TWO_CALLS + 1, 0, 16);
+    m.cells[3] = unwritten_cell;
     m.marks[DW_MARK(3, 5)] = 2;
     list_is_refused(s, m, TWO_CALLS + 1, 0, 16);
     s.files = 0;
     list_is_refused(s, m, TWO_CALLS + 1, 0, 15);
 }
 
-/* ---- Routes. */
+/* ---- Lists from a fresh store. */
 
 /* The setup of document 01's trial: process n sits at desk n, file n has class n. */
 static dw_setup trial_setup(void)
@@ -754,6 +906,102 @@ static dw_setup trial_setup(void)
         s.desk_of[n] = n;
     s.class_of[1] = 1;
     return s;
+}
+
+enum { SHORT_LIST = 16 };
+
+/* The store after a list of a few calls from a fresh one, and the answer of the last. */
+static dw_store after_list(const uint32_t *calls, uint32_t len, dw_answer *last)
+{
+    uint32_t answers[SHORT_LIST * DW_ANSWER_WIDTH] = {0}, written = len / DW_CALL_WIDTH * DW_ANSWER_WIDTH;
+    dw_setup s = trial_setup();
+    dw_listed listed = dw_run(s, dw_fresh(s).store, calls, len, answers, LEN(answers));
+
+    CHECK(is_answer(listed.answer, DW_DONE, len / DW_CALL_WIDTH));
+    last->kind = answers[written - 2];
+    last->value = answers[written - 1];
+    return listed.store;
+}
+
+static void list_ends_in(const uint32_t *calls, uint32_t len, uint32_t kind, uint32_t value)
+{
+    dw_answer last;
+
+    after_list(calls, len, &last);
+    CHECK(is_answer(last, kind, value));
+}
+
+/* Cases 1, 2, 6 and 7 of document 01, which end as 02 has them; then case 7 with a WRITE of 0, which is a figure too.
+ * Case 7 begins with case 6. */
+static void cases_end_as_they_should(void)
+{
+    static const uint32_t fresh[] = {DW_OPEN, 1, 0, 0, DW_READ, 1, 0, 0};
+    static const uint32_t no_lock[] = {DW_WRITE, 0, 0, 5, DW_OPEN, 1, 0, 0, DW_READ, 1, 0, 0};
+    uint32_t read_again[] = {DW_OPEN,  1, 0, 0, DW_LOCK,   0, 0, 0, DW_READ, 1, 0, 0,
+                             DW_WRITE, 0, 0, 6, DW_UNLOCK, 0, 0, 0, DW_READ, 1, 0, 0};
+    enum { CASE_6 = 3 * DW_CALL_WIDTH, WRITTEN = CASE_6 + 3 };
+
+    list_ends_in(fresh, LEN(fresh), DW_NOTHING, 0);
+    list_ends_in(no_lock, LEN(no_lock), DW_NOTHING, 0);
+    list_ends_in(read_again, CASE_6, DW_NOTHING, 0);
+    list_ends_in(read_again, LEN(read_again), DW_FIGURE, 6);
+    read_again[WRITTEN] = 0;
+    list_ends_in(read_again, LEN(read_again), DW_FIGURE, 0);
+}
+
+/* The store after such a list, call by call in place. */
+static dw_store after_calls(const uint32_t *calls, uint32_t len)
+{
+    dw_setup s = trial_setup();
+    dw_store m = dw_fresh(s).store;
+
+    for (uint32_t i = 0; i < len; i += DW_CALL_WIDTH)
+        dw_call_in_place(s, &m, calls[i], calls[i + 1], calls[i + 2], calls[i + 3]);
+    return m;
+}
+
+/* Two lists that leave the same state leave the same bytes, run as a list or call by call. */
+static void states_are_bytes(void)
+{
+    static const uint32_t at_once[] = {DW_LOCK, 0, 0, 0, DW_WRITE, 0, 0, 0, DW_UNLOCK, 0, 0, 0};
+    static const uint32_t over_six[] = {DW_OPEN,  1, 0, 0, DW_LOCK,   0, 0, 0, DW_WRITE, 0, 0, 6,
+                                        DW_WRITE, 0, 0, 0, DW_UNLOCK, 0, 0, 0, DW_CLOSE, 1, 0, 0};
+    static const uint32_t taken_back[] = {DW_OPEN, 1, 0, 0, DW_LOCK,   1, 1, 0, DW_WRITE, 1, 1, 5,
+                                          DW_COPY, 1, 0, 1, DW_UNLOCK, 1, 1, 0, DW_CLOSE, 1, 0, 0};
+    dw_store blank = blank_store(), one, other;
+    dw_answer last;
+
+    one = after_list(at_once, LEN(at_once), &last);
+    other = after_calls(over_six, LEN(over_six));
+    CHECK(same_store(&one, &other));
+    CHECK(!same_store(&one, &blank));
+    one = after_list(taken_back, LEN(taken_back), &last);
+    other = after_calls(taken_back, LEN(taken_back));
+    CHECK(same_store(&one, &blank) && same_store(&other, &blank));
+}
+
+/* ---- Routes. */
+
+/* The lists of cases 9 and 10: desk 0's three calls come first. */
+static const uint32_t two_links[] = {DW_LOCK,   0, 0, 0, DW_WRITE, 0, 0, 1, DW_UNLOCK, 0, 0, 0,
+                                     DW_OPEN,   1, 0, 0, DW_LOCK,  1, 1, 0, DW_COPY,   1, 0, 1,
+                                     DW_UNLOCK, 1, 1, 0, DW_OPEN,  2, 1, 0, DW_READ,   2, 1, 0};
+static const uint32_t one_link[] = {DW_LOCK,   0, 0, 0, DW_WRITE, 0, 0, 1, DW_UNLOCK, 0, 0, 0,
+                                    DW_OPEN,   1, 0, 0, DW_READ,  1, 0, 0};
+
+/* The last desk reads figure 1, and nothing once the first desk's calls are struck out. */
+static void route_is_heard(const uint32_t *calls, uint32_t len)
+{
+    enum { FIRST_DESKS = 3 * DW_CALL_WIDTH };
+
+    list_ends_in(calls, len, DW_FIGURE, 1);
+    list_ends_in(calls + FIRST_DESKS, len - FIRST_DESKS, DW_NOTHING, 0);
+}
+
+static void routes_are_heard(void)
+{
+    route_is_heard(two_links, LEN(two_links));
+    route_is_heard(one_link, LEN(one_link));
 }
 
 /* The run that starts here has these numbers in front, and all the rest of the room is as it was made. */
@@ -781,11 +1029,6 @@ static void route_is(dw_setup s, uint32_t a, uint32_t b, size_t room_len, uint32
 /* Cases 9, 10 and 11 of document 01, and the other refusals in their order. */
 static void routes_keep_to_their_room(void)
 {
-    static const uint32_t two_links[] = {DW_LOCK,   0, 0, 0, DW_WRITE, 0, 0, 1, DW_UNLOCK, 0, 0, 0,
-                                         DW_OPEN,   1, 0, 0, DW_LOCK,  1, 1, 0, DW_COPY,   1, 0, 1,
-                                         DW_UNLOCK, 1, 1, 0, DW_OPEN,  2, 1, 0, DW_READ,   2, 1, 0};
-    static const uint32_t one_link[] = {DW_LOCK,   0, 0, 0, DW_WRITE, 0, 0, 1, DW_UNLOCK, 0, 0, 0,
-                                        DW_OPEN,   1, 0, 0, DW_READ,  1, 0, 0};
     dw_setup s = trial_setup();
 
     route_is(s, 0, 2, DW_ROUTE_NUMBERS, DW_ROUTE, DW_ROUTE_CALLS(2), two_links, LEN(two_links));
@@ -1001,16 +1244,21 @@ static const struct group {
     {"a setup's counts are read", reads_counts},
     {"a setup's entries are read", reads_entries},
     {"a setup's rights are read where they lie", reads_rights},
-    {"a store's figures and open marks are read", reads_figures_and_marks},
+    {"a store's cells and open marks are read", reads_cells_and_marks},
     {"a store's holders are read", reads_holders},
     {"every field of a store is judged", judges_every_field},
     {"an accepted setup comes back in every field", gives_setups},
     {"a setup's lengths are matched", matches_lengths},
     {"a fresh store comes back in every field", gives_stores},
     {"a call changes its one field", calls_change_one_field},
+    {"a written mark goes with its figure", written_marks_go_with_figures},
+    {"a file's cell lies by its number, the figure first", cells_lie_by_file},
     {"a refused call changes nothing", refused_calls_change_nothing},
     {"a list keeps to its room", lists_keep_to_their_room},
     {"a refused list writes nothing", refused_lists_write_nothing},
+    {"cases 1, 2, 6 and 7 of documents 01 and 02 end as they should", cases_end_as_they_should},
+    {"two ways to one state leave the same bytes", states_are_bytes},
+    {"a route is heard, and nothing without its first desk", routes_are_heard},
     {"a route keeps to its room", routes_keep_to_their_room},
     {"a grid keeps to its room", grids_keep_to_their_room},
     {"a refused grid writes nothing", refused_grids_write_nothing},

@@ -4,7 +4,7 @@ use crate::refusal::Refusal;
 use crate::rules::{Rules, Turn};
 use crate::setup::Setup;
 use crate::sizes::{ANSWER_WIDTH, CALL_WIDTH, PROCESSES};
-use crate::store::{judge, mark_at, Store, OPEN};
+use crate::store::{judge, mark_at, Cell, Store, OPEN};
 
 /// The codes of the eight calls.
 pub mod code {
@@ -158,8 +158,8 @@ fn waived(turn: Turn) -> Option<(u32, Obstacle)> {
 fn effect(rules: Rules, store: &mut Store, call: Call) -> Answer {
     let (p, f, x) = (call.process as usize, call.file as usize, call.extra as usize);
     match call.operation {
-        code::READ => return Answer::Figure(store.figures[f]),
-        code::WRITE => store.figures[f] = call.extra,
+        code::READ => return reading(rules, store.cells[f]),
+        code::WRITE => store.cells[f] = writing(rules, store.cells[f], call.extra),
         code::LOCK => {
             store.holders[f] = call.process + 1;
             if rules.turned(Turn::LockClearsMarks) {
@@ -175,10 +175,42 @@ fn effect(rules: Rules, store: &mut Store, call: Call) -> Answer {
             let yes = store.locked_by(f, p) || any;
             return if yes { Answer::Yes } else { Answer::No };
         }
-        _ if rules.turned(Turn::CopyWritesExtra) => store.figures[x] = call.extra,
-        _ => store.figures[x] = store.figures[f],
+        _ => store.cells[x] = copying(rules, call, store.cells[f], store.cells[x]),
     }
     Answer::Nothing
+}
+
+/// What READ answers of a cell: its figure, which may be 0, or nothing where it is unwritten.
+fn reading(rules: Rules, cell: Cell) -> Answer {
+    let nothing = match rules.turn {
+        Turn::ReadUnwrittenAsZero => false,
+        Turn::ReadZeroAsUnwritten => cell.figure == 0,
+        _ => !cell.is_written(),
+    };
+    if nothing {
+        Answer::Nothing
+    } else {
+        Answer::Figure(cell.figure)
+    }
+}
+
+/// The cell that WRITE leaves, with a figure of 0 too.
+fn writing(rules: Rules, before: Cell, figure: u32) -> Cell {
+    match rules.turn {
+        Turn::WriteZeroKeepsMark if figure == 0 => Cell { figure, ..before },
+        _ => Cell::of(figure),
+    }
+}
+
+/// The cell that COPY leaves on its target: the source's, mark and all.
+fn copying(rules: Rules, call: Call, source: Cell, target: Cell) -> Cell {
+    match rules.turn {
+        Turn::CopyWritesExtra => Cell { figure: call.extra, ..source },
+        Turn::CopyKeepsMark => Cell { figure: source.figure, ..target },
+        Turn::CopySkipsUnwritten if !source.is_written() => target,
+        Turn::CopyMarksWritten => Cell::of(source.figure),
+        _ => source,
+    }
 }
 
 /// One call on a store that is known to fit its setup.

@@ -17,3 +17,5 @@ pub mod text;
 
 #[cfg(test)]
 mod cases;
+#[cfg(test)]
+mod marks;

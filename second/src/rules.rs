@@ -65,6 +65,18 @@ pub enum Turn {
     CallLineOneFewer,
     FurtherLineTaken,
     InputOneShorter,
+    // Written marks.
+    ReadUnwrittenAsZero,
+    ReadZeroAsUnwritten,
+    WriteZeroKeepsMark,
+    CopyKeepsMark,
+    CopySkipsUnwritten,
+    CopyMarksWritten,
+    FreshIsWritten,
+    WrittenMarkOfTwoFits,
+    WrittenMarkByLowByte,
+    UnwrittenFigureFits,
+    WrittenTailFits,
     // The grid. Those from the first to the last of these are its turns.
     GridTransposed,
     GridRowsOfMost,
@@ -83,7 +95,7 @@ pub enum Turn {
 }
 
 /// Every turn that breaks a rule.
-pub const TURNS: [Turn; 69] = [
+pub const TURNS: [Turn; 80] = [
     Turn::ReadUnopened,
     Turn::ReadLockedByAnother,
     Turn::WriteUnlocked,
@@ -139,6 +151,17 @@ pub const TURNS: [Turn; 69] = [
     Turn::CallLineOneFewer,
     Turn::FurtherLineTaken,
     Turn::InputOneShorter,
+    Turn::ReadUnwrittenAsZero,
+    Turn::ReadZeroAsUnwritten,
+    Turn::WriteZeroKeepsMark,
+    Turn::CopyKeepsMark,
+    Turn::CopySkipsUnwritten,
+    Turn::CopyMarksWritten,
+    Turn::FreshIsWritten,
+    Turn::WrittenMarkOfTwoFits,
+    Turn::WrittenMarkByLowByte,
+    Turn::UnwrittenFigureFits,
+    Turn::WrittenTailFits,
     Turn::GridTransposed,
     Turn::GridRowsOfMost,
     Turn::GridDiagonalOne,

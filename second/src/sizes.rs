@@ -12,6 +12,9 @@ pub const CALLS: usize = 1024;
 pub const CALL_WIDTH: usize = 4;
 pub const ANSWER_WIDTH: usize = 2;
 
+/// Numbers that a cell takes, which is what a file holds.
+pub const CELL_WIDTH: usize = 2;
+
 /// The longest list in numbers, which is also the room that a call text asks for.
 pub const LIST_NUMBERS: usize = CALLS * CALL_WIDTH;
 

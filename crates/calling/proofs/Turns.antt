@@ -6,11 +6,10 @@ use mathlib.Core.Path.{_≡_, refl}
 use mathlib.Core.Bool.{true, false}
 use lib.Seq.{set-getD}
 use Rattle.rules.specs.Setups.{mayRead, mayWrite}
-use Rattle.rules.specs.Stores.{holderOf, contentOf, markOf, putHolder, putContent, putMark}
+use Rattle.rules.specs.Stores.{Content, holderOf, contentOf, markOf, putHolder, putContent, putMark}
 use Rattle.rules.specs.Calls.{goesThrough, effect, says, answerTo, nextStore}
 use Rattle.rules.specs.Parts.{processOf, fileOf, changeable}
 use Rattle.rules.specs.declared.Setup.{Setup}
-use Rattle.rules.specs.declared.Content.{Content}
 use Rattle.rules.specs.declared.Store.{Store}
 use Rattle.rules.specs.declared.Call.{Call}
 use Rattle.rules.specs.declared.Call.the-variants.{Read, Write, Lock, Unlock, Open, Close, Testlock, Copy}

@@ -1,9 +1,8 @@
 -- For the step, which is no entry: the rules of the calls on what a call looks at, its answer, and what its process meets next of the file that it can change.
 use Prim.Native.Nat.{ℕ, _+_}
 use mathlib.Core.Bool.{Bool, _&&_, cond}
-use Rattle.rules.specs.Stores.{unlocked, lockedBy}
+use Rattle.rules.specs.Stores.{Content, unlocked, lockedBy}
 use Rattle.rules.specs.Calls.{readOf, writtenTo, copiedTo, yesOrNo, freeFor}
-use Rattle.rules.specs.declared.Content.{Content}
 use Rattle.rules.specs.declared.Call.{Call}
 use Rattle.rules.specs.declared.Call.the-variants.{Read, Write, Lock, Unlock, Open, Close, Testlock, Copy}
 use Rattle.rules.specs.declared.Answer.{Answer}

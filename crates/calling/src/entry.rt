@@ -10,7 +10,7 @@ use judging::rights::right_of;
 use rules::Answer;
 use rules::Call;
 use rules::Called;
-use rules::Content;
+use rules::Cell;
 use rules::Decoded;
 use rules::Numbers;
 use rules::PROCESSES;
@@ -78,7 +78,7 @@ fn is_open(mark: u8) -> bool
     mark == 1
 }
 
-pub fn meeting_of(holder: u32, content: Content, mark: u8) -> Meeting
+pub fn meeting_of(holder: u32, content: Cell, mark: u8) -> Meeting
     ensures { λ r. ⌜ r ≡ record { holder = holder; content = content; mark = mark } ⌝ }
 {
     Meeting {
@@ -149,15 +149,15 @@ fn run_one(setup: Setup, store: Store, call: Call) -> Called
     let x = changeable(call) as usize;
     let at_f = f * PROCESSES + p;
     let at_x = x * PROCESSES + p;
-    let from = meeting_of(next.holders[f], next.contents[f], next.marks[at_f]);
-    let onto = meeting_of(next.holders[x], next.contents[x], next.marks[at_x]);
+    let from = meeting_of(next.holders[f], next.cells[f], next.marks[at_f]);
+    let onto = meeting_of(next.holders[x], next.cells[x], next.marks[at_x]);
     let look = look_on(&setup.rights, &setup.desk, &setup.class, call, from, onto);
     let turn = step(call, look);
     let answer = turn.answer;
     let meeting = turn.meeting;
     let content = meeting.content;
     next.holders[x] = meeting.holder;
-    next.contents[x] = content;
+    next.cells[x] = content;
     next.marks[at_x] = meeting.mark;
     Called {
         answer,

@@ -4,12 +4,12 @@ pub mod entry;
 pub mod stepping;
 
 use rules::Answer;
-use rules::Content;
+use rules::Cell;
 
 // What a process meets of one file: its holder, its content, and the process's own open mark.
 pub struct Meeting {
     pub holder: u32,
-    pub content: Content,
+    pub content: Cell,
     pub mark: u8,
 }
 
@@ -20,7 +20,7 @@ pub struct Looks {
     pub w: bool,
     pub opened: bool,
     pub holder: u32,
-    pub content: Content,
+    pub content: Cell,
     pub target: Meeting,
 }
 

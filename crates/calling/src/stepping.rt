@@ -2,9 +2,10 @@
 use crate::Looks;
 use crate::Meeting;
 use crate::Turn;
+use judging::fitting::is_written;
 use rules::Answer;
 use rules::Call;
-use rules::Content;
+use rules::Cell;
 ghost use mathlib.Core.Path.{_≡_};
 ghost use Prim.Native.Nat.{_<_};
 ghost use Rattle.rules.specs.Sizes.{mostProcesses};
@@ -45,7 +46,7 @@ fn with_holder(meeting: Meeting, holder: u32) -> Meeting
     next
 }
 
-fn with_content(meeting: Meeting, content: Content) -> Meeting
+fn with_content(meeting: Meeting, content: Cell) -> Meeting
     ensures { λ r. ⌜ r ≡ withContent meeting content ⌝ }
 {
     let mut next = meeting;
@@ -63,21 +64,25 @@ fn with_mark(meeting: Meeting, mark: u8) -> Meeting
 
 // What READ, WRITE and COPY do with a content.
 
-fn read_of(content: Content) -> Answer
+fn read_of(content: Cell) -> Answer
     ensures { λ r. ⌜ r ≡ readOf content ⌝ }
 {
+    if !is_written(content) {
+        return Answer::Nothing;
+    }
     Answer::Figure(content.figure)
 }
 
-fn written_to(content: Content, x: u32) -> Content
+fn written_to(content: Cell, x: u32) -> Cell
     ensures { λ r. ⌜ r ≡ writtenTo content x ⌝ }
 {
     let mut next = content;
     next.figure = x;
+    next.written = 1;
     next
 }
 
-fn copied_to(content: Content, source: Content) -> Content
+fn copied_to(content: Cell, source: Cell) -> Cell
     ensures { λ r. ⌜ r ≡ copiedTo content source ⌝ }
 {
     source

@@ -1,4 +1,4 @@
--- The list that the report writes shows the route: with A's calls B's last answer is the figure 1, and without them the figure 0.
+-- The list that the report writes shows the route: with A's calls B's last answer is the figure 1, and without them "nothing".
 -- Assumes nothing.
 use Prim.Native.Nat.{ℕ, suc, _≤_}
 use mathlib.Core.Path.{_≡_, refl, sym}
@@ -39,7 +39,7 @@ module _ (s : Setup) where
   others-call d {u} {p} at h code f x = rw (lt-ltb p (s .processes) (at .exists), at .sits) (ne-eqb d u h)
 
 module _ (s : Setup) (e : accepted s ≡ true) (b : ℕ) where
-  -- from a stage on, the desk at the end hears the figure of the file that the stage's link made
+  -- from a stage on, the desk at the end hears what the file holds that serves the stage's link
   onward-heard : (rest : List ℕ) (c d : ℕ) {m : Store} → Fewest (linked s) c b (d ∷ rest) → Stage m
       → answersTo (machine s) b m (onward s d (fileFor s c d) rest) ≡ Nothing ∷ readOf (contentOf m (fileFor s c d)) ∷ []
   unfolding onward answersWhere

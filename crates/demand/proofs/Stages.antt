@@ -9,11 +9,10 @@ use lib.ListN.{length, set, length-set, length-replicate, getD-replicate}
 use lib.Seq.{set-getD, set-set, getD-set-same, getD-set-other}
 use Rattle.rules.specs.Sizes.{mostFiles, mostMarks}
 use Rattle.rules.specs.Setups.{hasR, hasW, classOf, rightOf, mayRead, mayWrite, accepted}
-use Rattle.rules.specs.Stores.{blankContent, pastContents, holderOf, contentOf, markAt, markOf, putHolder, putContent, putMark, freshStore}
+use Rattle.rules.specs.Stores.{Content, blankContent, pastContents, holderOf, contentOf, markAt, markOf, putHolder, putContent, putMark, freshStore}
 use Rattle.rules.specs.Calls.{readOf, writtenTo, copiedTo}
 use Rattle.rules.specs.Entries.{ran}
 use Rattle.rules.specs.declared.Setup.{Setup}
-use Rattle.rules.specs.declared.Content.{Content}
 use Rattle.rules.specs.declared.Store.{Store}
 use Rattle.rules.proofs.Lists.{getD-alike}
 use Rattle.rules.proofs.Setups.{accepted-sizes}
@@ -26,7 +25,7 @@ use Rattle.demand.proofs.Goes.{lock-goes, write-goes, unlock-goes, open
 pub record Stage (m : Store) : Type 0 where
   pub free : (f : ℕ) → holderOf m f ≡ 0
   pub holders : length (m .holders) ≡ mostFiles
-  pub contents : length (m .contents) ≡ mostFiles
+  pub cells : length (m .cells) ≡ mostFiles
   pub marks : length (m .marks) ≡ mostMarks
 
 pub fresh-stage : Stage freshStore
@@ -35,7 +34,7 @@ fresh-stage =
     record {
       free = λ f. getD-alike mostFiles f 0;
       holders = length-replicate {A = ℕ} mostFiles 0;
-      contents = length-replicate mostFiles blankContent;
+      cells = length-replicate mostFiles blankContent;
       marks = length-replicate {A = ℕ} mostMarks 0;
     }
 
@@ -47,11 +46,11 @@ module _ {m : Store} (at : Stage m) where
   -- another content and one more open mark leave every file unlocked
   pub content-stage : (f : ℕ) (content : Content) → Stage (putContent m f content)
   content-stage f content =
-      record { free = at .free; holders = at .holders; contents = length-set (m .contents) f content ∙ at .contents; marks = at .marks }
+      record { free = at .free; holders = at .holders; cells = length-set (m .cells) f content ∙ at .cells; marks = at .marks }
 
   pub open-stage : (f p : ℕ) → Stage (putMark m f p 1)
   open-stage f p =
-      record { free = at .free; holders = at .holders; contents = at .contents; marks = length-set (m .marks) (markAt f p) 1 ∙ at .marks }
+      record { free = at .free; holders = at .holders; cells = at .cells; marks = length-set (m .marks) (markAt f p) 1 ∙ at .marks }
 
   -- a file that was locked and unlocked again leaves the holders as they were
   lock-over : (f holder : ℕ) → set (set (m .holders) f holder) f 0 ≡ m .holders
@@ -75,14 +74,14 @@ module _ (s : Setup) (e : accepted s ≡ true) {m : Store} (at : Stage m) where
   put-holder f holder h = getD-set-same (m .holders) f holder 0 (omega (arith, accepted-sizes s e .of-files .high, at .holders))
 
   pub put-content : (f : ℕ) (content : Content) → f < s .files → contentOf (putContent m f content) f ≡ content
-  put-content f content h = getD-set-same (m .contents) f content pastContents (omega (arith, accepted-sizes s e .of-files .high, at .contents))
+  put-content f content h = getD-set-same (m .cells) f content pastContents (omega (arith, accepted-sizes s e .of-files .high, at .cells))
 
   put-open : (f p : ℕ) → f < s .files → p < s .processes → markOf (putMark m f p 1) f p ≡ 1
   put-open f p h k =
       let sizes = accepted-sizes s e in
       getD-set-same (m .marks) (markAt f p) 1 0 (omega (arith, sizes .of-files .high, sizes .of-processes .high, at .marks))
 
-  -- the first desk's LOCK, WRITE and UNLOCK leave its figure in the file
+  -- the first desk's LOCK, WRITE and UNLOCK leave its figure written in the file
   pub wrote : (d u x : ℕ) → LinkActs s d u
       → let p = processAt s d in let f = fileFor s d u in
       ran s (ran s (ran s m (lockCall p f) .store) (writeCall p f x) .store) (unlockCall p f) .store ≡ putContent m f (writtenTo (contentOf m f) x)
@@ -122,7 +121,7 @@ module _ (s : Setup) (e : accepted s ≡ true) {m : Store} (at : Stage m) where
         lock-over at g (p + 1),
       )
 
-  -- the last desk's READ after its OPEN answers the figure of the file before it
+  -- the last desk's READ after its OPEN answers what the file before it holds
   pub read-out : (c d : ℕ) → LinkActs s c d
       → let p = processAt s d in let f = fileFor s c d in
       ran s (ran s m (openCall p f) .store) (readCall p f) .answer ≡ readOf (contentOf m f)

@@ -25,7 +25,7 @@ without s a acts = strikeDesk (machine s) a acts
 abbrev pub Unheard : Setup → ℕ → ℕ → Type 0
 Unheard s a b = (acts : List Numbers) → Every Is32 acts → heard s b acts ≡ heard s b (without s a acts)
 
--- the list lets desk b hear desk a: b is answered nothing and then the figure 1, and nothing and then the figure 0 without a's calls
+-- the list lets desk b hear desk a: b is answered "nothing" and then the figure 1, and twice "nothing" without a's calls
 pub record Shows (s : Setup) (a b : ℕ) (acts : List Numbers) : Type 0 where
   pub with-them : heard s b acts ≡ Nothing ∷ Figure 1 ∷ []
-  pub without-them : heard s b (without s a acts) ≡ Nothing ∷ Figure 0 ∷ []
+  pub without-them : heard s b (without s a acts) ≡ Nothing ∷ Nothing ∷ []

@@ -1,4 +1,4 @@
--- For the judging of marks, which is no entry: a setup as far as its number of processes and its three tables go: what a mark is judged by.
+-- For the judging of open marks, which is no entry: a setup as far as its number of processes and its three tables go: what an open mark is judged by.
 use Prim.Native.Nat.{ℕ}
 use mathlib.Core.List.{List}
 use Rattle.rules.specs.declared.Setup.{Setup}

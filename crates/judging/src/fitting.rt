@@ -4,7 +4,7 @@ use crate::rights::may_write;
 use crate::rights::right_of;
 use rules::BOTH;
 use rules::CLASSES;
-use rules::Content;
+use rules::Cell;
 use rules::DESKS;
 use rules::DOES_NOT_FIT;
 use rules::FILES;
@@ -22,7 +22,7 @@ ghost use lib.Dec.{ltb};
 ghost use lib.ListN.{length, getD};
 ghost use Rattle.rules.specs.Sizes.{mostDesks, mostClasses, mostFiles, mostRights, mostMarks, within, every};
 ghost use Rattle.rules.specs.Setups.{rightBoth, withinSizes, entryFits, accepted};
-ghost use Rattle.rules.specs.Stores.{isBlank, markAt, storeOf, holderFits, markFits, marksFit, fileIsBlank, fileFits, fits};
+ghost use Rattle.rules.specs.Stores.{isWritten, isBlank, markAt, storeOf, holderFits, markFits, marksFit, contentFits, fileIsBlank, fileFits, fits};
 ghost use Rattle.judging.specs.Tables.{tables};
 ghost use Rattle.rules.specs.Refusals.{judgeRefusal};
 ghost use Rattle.rules.specs.Entries.{freshness};
@@ -112,10 +112,22 @@ pub fn accepted(setup: Setup) -> bool
         & entries_fit(&setup.class, setup.files as usize, setup.classes as usize)
 }
 
-fn is_blank(content: Content) -> bool
+pub fn is_written(content: Cell) -> bool
+    ensures { λ r. ⌜ r ≡ isWritten content ⌝ }
+{
+    content.written == 1
+}
+
+fn is_blank(content: Cell) -> bool
     ensures { λ r. ⌜ r ≡ isBlank content ⌝ }
 {
-    content.figure == 0
+    (content.figure == 0) & (content.written == 0)
+}
+
+fn content_fits(content: Cell) -> bool
+    ensures { λ r. ⌜ r ≡ contentFits content ⌝ }
+{
+    is_written(content) | is_blank(content)
 }
 
 fn holder_fits(setup: Setup, f: usize, holder: u32) -> bool
@@ -156,7 +168,7 @@ fn mark_fits<'a>(
     }
 }
 
-// The marks of one file; those of all files are lent.
+// The open marks of one file; those of all files are lent.
 fn marks_fit(setup: Setup, f: usize, marks: &[u8]) -> bool
     requires { ⌜ (f < mostFiles) × (length (now marks) ≡ mostMarks) ⌝ }
     ensures { λ r. ⌜ r ≡ marksFit setup f (λ p. getD (now (marks .entry)) (markAt f p) 0) ⌝ }
@@ -181,8 +193,8 @@ fn marks_fit(setup: Setup, f: usize, marks: &[u8]) -> bool
     true
 }
 
-// A file past the files is unlocked, unopened and blank.
-fn file_is_blank(f: usize, holder: u32, content: Content, marks: &[u8]) -> bool
+// A file past the files is unlocked, unopened and unwritten, with the figure 0.
+fn file_is_blank(f: usize, holder: u32, content: Cell, marks: &[u8]) -> bool
     requires { ⌜ (f < mostFiles) × (length (now marks) ≡ mostMarks) ⌝ }
     ensures { λ r. ⌜ r ≡ fileIsBlank holder content (λ p. getD (now (marks .entry)) (markAt f p) 0) ⌝ }
 {
@@ -198,7 +210,7 @@ fn file_is_blank(f: usize, holder: u32, content: Content, marks: &[u8]) -> bool
     is_blank(content)
 }
 
-fn file_fits(setup: Setup, f: usize, holder: u32, content: Content, marks: &[u8]) -> bool
+fn file_fits(setup: Setup, f: usize, holder: u32, content: Cell, marks: &[u8]) -> bool
     requires { ⌜ (f < mostFiles) × (length (now marks) ≡ mostMarks) ⌝ }
     ensures { λ r. ⌜ r ≡ fileFits setup f holder content (λ p. getD (now (marks .entry)) (markAt f p) 0) ⌝ }
 {
@@ -208,7 +220,10 @@ fn file_fits(setup: Setup, f: usize, holder: u32, content: Content, marks: &[u8]
     if !holder_fits(setup, f, holder) {
         return false;
     }
-    marks_fit(setup, f, marks)
+    if !marks_fit(setup, f, marks) {
+        return false;
+    }
+    content_fits(content)
 }
 
 fn store_fits(setup: Setup, store: Store) -> bool
@@ -217,7 +232,7 @@ fn store_fits(setup: Setup, store: Store) -> bool
     let mut f = 0;
     while f < FILES {
         let holder = store.holders[f];
-        let content = store.contents[f];
+        let content = store.cells[f];
         if !file_fits(setup, f, holder, content, &store.marks) {
             return false;
         }
@@ -239,13 +254,17 @@ pub fn judge(setup: Setup, store: Store) -> u32
     0
 }
 
-// Nothing locked, all figures 0, and one mark throughout.
+// Nothing locked, nothing written, and one open mark throughout.
 fn store_of(mark: u8) -> Store
     ensures { λ r. ⌜ r ≡ storeOf mark ⌝ }
 {
+    let unwritten = Cell {
+        figure: 0,
+        written: 0,
+    };
     Store {
         holders: [0u32; FILES],
-        contents: [Content { figure: 0 }; FILES],
+        cells: [unwritten; FILES],
         marks: [mark; MARKS],
     }
 }
@@ -255,7 +274,7 @@ pub fn fresh(setup: Setup) -> GivenStore
     ensures { λ r. ⌜ r ≡ freshness setup ⌝ }
 {
     if !accepted(setup) {
-        // A mark of 2 is neither 0 nor 1, so this store fits no setup.
+        // An open mark of 2 is neither 0 nor 1, so this store fits no setup.
         let store = store_of(2);
         return GivenStore {
             refusal: NOT_ACCEPTED,

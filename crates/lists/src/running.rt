@@ -107,15 +107,15 @@ fn run_all(setup: Setup, store: Store, calls: &[u32], answers: &mut [u32]) -> St
                 let x = changeable(call) as usize;
                 let at_f = f * PROCESSES + p;
                 let at_x = x * PROCESSES + p;
-                let from = meeting_of(next.holders[f], next.contents[f], next.marks[at_f]);
-                let onto = meeting_of(next.holders[x], next.contents[x], next.marks[at_x]);
+                let from = meeting_of(next.holders[f], next.cells[f], next.marks[at_f]);
+                let onto = meeting_of(next.holders[x], next.cells[x], next.marks[at_x]);
                 let look = look_on(&setup.rights, &setup.desk, &setup.class, call, from, onto);
                 let turn = step(call, look);
                 let answer = turn.answer;
                 let meeting = turn.meeting;
                 let content = meeting.content;
                 next.holders[x] = meeting.holder;
-                next.contents[x] = content;
+                next.cells[x] = content;
                 next.marks[at_x] = meeting.mark;
                 put(answers, i, answer);
                 i = after;

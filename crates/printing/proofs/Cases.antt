@@ -1,4 +1,4 @@
--- The program case of 01, from its first byte in to its last byte out, by computation.
+-- The program case of 01, and its end without the first three calls as 02, Req 02 has it, from its first byte in to its last byte out, by computation.
 -- Assumes nothing.
 use Prim.Native.Nat.{ℕ, _+_}
 use mathlib.Core.Path.{_≡_, refl}
@@ -45,7 +45,7 @@ pub program-case : printed (setupText ++ callText) ≡ output
 unfolding computes
 program-case = refl
 
--- "With the first three calls removed": the bytes of the line `calls`, `1`, and then those after the three
+-- "the program case without its first three calls": the bytes of the line `calls`, `1`, and then those after the three
 abbrev callsBytes : ℕ
 callsBytes = 8
 
@@ -55,6 +55,7 @@ struckBytes = 32
 abbrev silentText : List ℕ
 silentText = take callsBytes callText ++ drop (callsBytes + struckBytes) callText
 
+-- "0 nothing" to "5 nothing"
 abbrev silentOutput : List ℕ
 silentOutput =
     48 ∷ 9 ∷ 110 ∷ 111 ∷ 116 ∷ 104 ∷ 105 ∷ 110 ∷ 103 ∷ 10 ∷
@@ -62,7 +63,7 @@ silentOutput =
     50 ∷ 9 ∷ 110 ∷ 111 ∷ 116 ∷ 104 ∷ 105 ∷ 110 ∷ 103 ∷ 10 ∷
     51 ∷ 9 ∷ 110 ∷ 111 ∷ 116 ∷ 104 ∷ 105 ∷ 110 ∷ 103 ∷ 10 ∷
     52 ∷ 9 ∷ 110 ∷ 111 ∷ 116 ∷ 104 ∷ 105 ∷ 110 ∷ 103 ∷ 10 ∷
-    53 ∷ 9 ∷ 102 ∷ 105 ∷ 103 ∷ 117 ∷ 114 ∷ 101 ∷ 9 ∷ 48 ∷ 10 ∷ []
+    53 ∷ 9 ∷ 110 ∷ 111 ∷ 116 ∷ 104 ∷ 105 ∷ 110 ∷ 103 ∷ 10 ∷ []
 
 pub silent-case : printed (setupText ++ silentText) ≡ silentOutput
 unfolding computes

@@ -22,7 +22,7 @@ pub record ShownBy (s : Setup) (a b n : ℕ) (room : List ℕ) : Type 0 where
   -- "The list written has 4k+1 calls", and they are those along the chain
   pub count : n ≡ callsFor (length chain)
   pub list : callsOf (take (n * callWidth) room) ≡ routeCalls s a chain
-  -- run from a fresh store they let b hear a: its last answer is the figure 1, and the figure 0 without a's calls
+  -- run from a fresh store they let b hear a: its last answer is the figure 1, and "nothing" without a's calls
   pub shows : Shows s a b (callsOf (take (n * callWidth) room))
   pub hears : ¬ Unheard s a b
 

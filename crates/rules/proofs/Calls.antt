@@ -7,11 +7,11 @@ use mathlib.Core.Logic.{_≢_}
 use native.Mathlib.Omega.{arith}
 use borrow.Author.Tests.{eqb-true, lt-ltb, ne-eqb}
 use lib.Seq.{set-set}
-use Rattle.rules.specs.Sizes.{mostProcesses}
+use Rattle.rules.specs.Sizes.{mostProcesses, mostFiles}
 use Rattle.rules.specs.Setups.{mayRead, mayWrite, accepted}
 use Rattle.rules.specs.Stores.{unlocked, lockedBy, holderOf, putMark, holderFits, markFits, fits}
 use Rattle.rules.specs.Calls.{goesThrough, effect, says, answerTo, nextStore}
-use Rattle.rules.specs.Parts.{processOf, changeable}
+use Rattle.rules.specs.Parts.{processOf, fileOf, changeable}
 use Rattle.rules.specs.declared.Setup.{Setup}
 use Rattle.rules.specs.declared.Store.{Store}
 use Rattle.rules.specs.declared.Call.{Call}
@@ -21,7 +21,7 @@ use Rattle.rules.specs.declared.Answer.the-variants.{Nothing}
 use Rattle.rules.proofs.Codes.{Exists}
 use Rattle.rules.proofs.Lists.{cond-holds}
 use Rattle.rules.proofs.Setups.{accepted-sizes}
-use Rattle.rules.proofs.Stores.{fits-putHolder, fits-putContent, fits-putMark, Kept, kept, putHolder-other, putContent-other, putMark-other}
+use Rattle.rules.proofs.Stores.{fits-at, fits-putHolder, fits-putContent, fits-putMark, Kept, kept, putHolder-other, putContent-other, putMark-other}
 
 -- what holds of the store as it is where the call does not go through, and of it with the effect where it does, holds of the next store
 pub nextStore-holds {ℓ} : (P : Store → Type ℓ) (s : Setup) (m : Store) (c : Call) → (goesThrough s m c ≡ false → P m)
@@ -50,23 +50,24 @@ unfolding markFits
 mark-fits-by s f p l r = rw (lt-ltb p (s .processes) l, r)
 
 -- a call that goes through leaves a store that fits, if it found one
-effect-fits : (s : Setup) (m : Store) (c : Call) → Exists s c → processOf c < mostProcesses → fits s m ≡ true → goesThrough s m c ≡ true
-    → fits s (effect m c) ≡ true
+effect-fits : (s : Setup) (m : Store) (c : Call) → Exists s c → processOf c < mostProcesses → fileOf c < mostFiles → fits s m ≡ true
+    → goesThrough s m c ≡ true → fits s (effect m c) ≡ true
 unfolding effect goesThrough holderFits markFits
-effect-fits s m (Read p f) x k e g = e
-effect-fits s m (Write p f n) x k e g = fits-putContent s m f (x .file) e _
-effect-fits s m (Lock p f) x k e g = fits-putHolder s m f (x .file) e (p + 1) (holder-fits-by s f p (x .process) (and-eq-true-iff (mayWrite s p f) _ .0 g .0))
-effect-fits s m (Unlock p f) x k e g = fits-putHolder s m f (x .file) e 0 refl
-effect-fits s m (Open p f) x k e g = fits-putMark s m f (x .file) e p 1 k (mark-fits-by s f p (x .process) (and-eq-true-iff (mayRead s p f) _ .0 g .0))
-effect-fits s m (Close p f) x k e g = fits-putMark s m f (x .file) e p 0 k refl
-effect-fits s m (Testlock p f) x k e g = e
-effect-fits s m (Copy p f n) x k e g = fits-putContent s m n (x .changed) e _
+effect-fits s m (Read p f) x k l e g = e
+effect-fits s m (Write p f n) x k l e g = fits-putContent s m f (x .file) e _ refl
+effect-fits s m (Lock p f) x k l e g = fits-putHolder s m f (x .file) e (p + 1) (holder-fits-by s f p (x .process) (and-eq-true-iff (mayWrite s p f) _ .0 g .0))
+effect-fits s m (Unlock p f) x k l e g = fits-putHolder s m f (x .file) e 0 refl
+effect-fits s m (Open p f) x k l e g = fits-putMark s m f (x .file) e p 1 k (mark-fits-by s f p (x .process) (and-eq-true-iff (mayRead s p f) _ .0 g .0))
+effect-fits s m (Close p f) x k l e g = fits-putMark s m f (x .file) e p 0 k refl
+effect-fits s m (Testlock p f) x k l e g = e
+effect-fits s m (Copy p f n) x k l e g = fits-putContent s m n (x .changed) e _ (fits-at s m e f l .content-fits (x .file))
 
 -- "Every accepted call keeps a store fitting"
 pub nextStore-fits : (s : Setup) (m : Store) (c : Call) → accepted s ≡ true → Exists s c → fits s m ≡ true → fits s (nextStore s m c) ≡ true
 nextStore-fits s m c a x e =
+    let sizes = accepted-sizes s a in
     nextStore-holds (λ (n : Store). fits s n ≡ true) s m c (λ g. e)
-    (effect-fits s m c x (omega (arith, x .process, accepted-sizes s a .of-processes .high)) e)
+    (effect-fits s m c x (omega (arith, x .process, sizes .of-processes .high)) (omega (arith, x .file, sizes .of-files .high)) e)
 
 module _ (s : Setup) (m : Store) (c : Call) (e : goesThrough s m c ≡ false) where
   -- a call that does not go through leaves the store as it is, and answers "nothing"

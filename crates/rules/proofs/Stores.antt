@@ -11,9 +11,9 @@ use lib.Dec.{ltb, eqb}
 use lib.ListN.{getD-replicate}
 use lib.Seq.{set-getD, getD-set-other}
 use Rattle.rules.specs.Sizes.{mostProcesses, mostFiles, mostMarks, every}
-use Rattle.rules.specs.Stores.{unlocked, isBlank, blankContent, pastContents, holderOf, contentOf, markAt, markOf, putHolder, putContent, putMark, freshStore, holderFits, markFits, marksFit, fileIsBlank, fileFits, fits, misfit}
+use Rattle.rules.specs.Stores.{Content, unlocked, isBlank, blankContent, pastContents, holderOf, contentOf, markAt, markOf, putHolder, putContent, putMark}
+use Rattle.rules.specs.Stores.{freshStore, holderFits, markFits, marksFit, contentFits, fileIsBlank, fileFits, fits, misfit}
 use Rattle.rules.specs.declared.Setup.{Setup}
-use Rattle.rules.specs.declared.Content.{Content}
 use Rattle.rules.specs.declared.Store.{Store}
 use Rattle.rules.proofs.Lists.{cond-holds, set-holds, getD-alike}
 use Rattle.rules.proofs.Sizes.{every-at, every-true, every-false}
@@ -22,20 +22,25 @@ use Rattle.rules.proofs.Sizes.{every-at, every-true, every-false}
 pub markAt-apart : (f g p q : ℕ) → p < mostProcesses → q < mostProcesses → markAt f p ≡ markAt g q → (f ≡ g) × (p ≡ q)
 markAt-apart f g p q k l e = (omega arith, omega arith)
 
--- what a file's fitting asks: of one before F its holder and its marks, of one past F that all is blank
+-- what a file's fitting asks: of one before F its holder, its marks and its content, of one past F that all is blank
 pub record FileFits (s : Setup) (f holder : ℕ) (content : Content) (marks : ℕ → ℕ) : Type 0 where
   pub holder-fits : f < s .files → holderFits s f holder ≡ true
   pub mark-fits : f < s .files → (p : ℕ) → p < mostProcesses → markFits s f p (marks p) ≡ true
+  pub content-fits : f < s .files → contentFits content ≡ true
   pub holder-blank : s .files ≤ f → unlocked holder ≡ true
   pub mark-blank : s .files ≤ f → (p : ℕ) → p < mostProcesses → eqb (marks p) 0 ≡ true
   pub content-blank : s .files ≤ f → isBlank content ≡ true
 
 -- and this is what is tested of it
 module _ (s : Setup) (f holder : ℕ) (content : Content) (marks : ℕ → ℕ) where
-  both-fit : (holderFits s f holder && marksFit s f marks ≡ true) ↔ ((holderFits s f holder ≡ true) × (marksFit s f marks ≡ true))
-  both-fit = and-eq-true-iff (holderFits s f holder) (marksFit s f marks)
+  all-fit : holderFits s f holder && marksFit s f marks && contentFits content ≡ true
+      → (holderFits s f holder ≡ true) × (marksFit s f marks ≡ true) × (contentFits content ≡ true)
+  all-fit e =
+      let (two, c) = and-eq-true-iff (holderFits s f holder && marksFit s f marks) (contentFits content) .0 e in
+      let (h, k) = and-eq-true-iff (holderFits s f holder) (marksFit s f marks) .0 two in
+      (h, k, c)
 
-  fileFits-before : f < s .files → fileFits s f holder content marks ≡ holderFits s f holder && marksFit s f marks
+  fileFits-before : f < s .files → fileFits s f holder content marks ≡ holderFits s f holder && marksFit s f marks && contentFits content
   unfolding fileFits
   fileFits-before l = rw (lt-ltb f (s .files) l)
 
@@ -55,8 +60,9 @@ module _ (s : Setup) (f holder : ℕ) (content : Content) (marks : ℕ → ℕ) 
   unfolding marksFit
   fileFits-tells e =
       record {
-        holder-fits = λ l. both-fit .0 (rw (fileFits-before l) at e) .0;
-        mark-fits = λ l. every-at mostProcesses _ (both-fit .0 (rw (fileFits-before l) at e) .1);
+        holder-fits = λ l. all-fit (rw (fileFits-before l) at e) .0;
+        mark-fits = λ l. every-at mostProcesses _ (all-fit (rw (fileFits-before l) at e) .1);
+        content-fits = λ l. all-fit (rw (fileFits-before l) at e) .2;
         holder-blank = λ l. all-blank (rw (fileFits-past l) at e) .0;
         mark-blank = λ l. every-at mostProcesses _ (all-blank (rw (fileFits-past l) at e) .1);
         content-blank = λ l. all-blank (rw (fileFits-past l) at e) .2;
@@ -66,7 +72,7 @@ module _ (s : Setup) (f holder : ℕ) (content : Content) (marks : ℕ → ℕ) 
   unfolding fileFits marksFit fileIsBlank
   fileFits-told h =
       cond-holds (λ (b : Bool). b ≡ true) (ltb f (s .files))
-      (λ t. let l = ltb-true f (s .files) t in rw (h .holder-fits l) (every-true mostProcesses _ (h .mark-fits l)))
+      (λ t. let l = ltb-true f (s .files) t in rw (h .holder-fits l, every-true mostProcesses _ (h .mark-fits l)) (h .content-fits l))
       (λ t. let l = ltb-false f (s .files) t in rw (h .holder-blank l, every-true mostProcesses _ (h .mark-blank l)) (h .content-blank l))
 
 -- each file of a store that fits does
@@ -79,7 +85,7 @@ fits-by : (s : Setup) (m : Store) → ((f : ℕ) → f < mostFiles → FileFits 
 unfolding fits
 fits-by s m h = every-true mostFiles _ (λ f l. fileFits-told s f _ _ _ (h f l))
 
--- a holder that fits, any content, and a mark that fits, put in the place of a file before F, keep a store fitting
+-- a holder, a content and a mark that fit, put in the place of a file before F, keep a store fitting
 module _ (s : Setup) (m : Store) (f : ℕ) (x : f < s .files) (e : fits s m ≡ true) where
   pub fits-putHolder : (holder : ℕ) → holderFits s f holder ≡ true → fits s (putHolder m f holder) ≡ true
   fits-putHolder holder h =
@@ -89,23 +95,25 @@ module _ (s : Setup) (m : Store) (f : ℕ) (x : f < s .files) (e : fits s m ≡ 
       record {
         holder-fits = λ c. set-holds (λ (n : ℕ). holderFits s g n ≡ true) (m .holders) f g holder 0 (old .holder-fits c) (λ q. rw q h);
         mark-fits = old .mark-fits;
+        content-fits = old .content-fits;
         holder-blank = λ c. set-holds (λ (n : ℕ). unlocked n ≡ true) (m .holders) f g holder 0 (old .holder-blank c) (λ q. absurd (omega arith));
         mark-blank = old .mark-blank;
         content-blank = old .content-blank;
       })
 
-  pub fits-putContent : (content : Content) → fits s (putContent m f content) ≡ true
-  fits-putContent content =
+  pub fits-putContent : (content : Content) → contentFits content ≡ true → fits s (putContent m f content) ≡ true
+  fits-putContent content h =
       fits-by s _
       (λ g l.
       let old = fits-at s m e g l in
       record {
         holder-fits = old .holder-fits;
         mark-fits = old .mark-fits;
+        content-fits = λ c. set-holds (λ (n : Content). contentFits n ≡ true) (m .cells) f g content pastContents (old .content-fits c) (λ q. h);
         holder-blank = old .holder-blank;
         mark-blank = old .mark-blank;
         content-blank =
-            λ c. set-holds (λ (n : Content). isBlank n ≡ true) (m .contents) f g content pastContents (old .content-blank c) (λ q. absurd (omega arith));
+            λ c. set-holds (λ (n : Content). isBlank n ≡ true) (m .cells) f g content pastContents (old .content-blank c) (λ q. absurd (omega arith));
       })
 
   pub fits-putMark : (p mark : ℕ) → p < mostProcesses → markFits s f p mark ≡ true → fits s (putMark m f p mark) ≡ true
@@ -119,6 +127,7 @@ module _ (s : Setup) (m : Store) (f : ℕ) (x : f < s .files) (e : fits s m ≡ 
             λ c q d.
             set-holds (λ (n : ℕ). markFits s g q n ≡ true) (m .marks) (markAt f p) (markAt g q) mark 0 (old .mark-fits c q d)
             (λ i. let (same, own) = markAt-apart g f q p d b i in rw (same, own) h);
+        content-fits = old .content-fits;
         holder-blank = old .holder-blank;
         mark-blank =
             λ c q d.
@@ -136,6 +145,7 @@ freshStore-fits s =
     record {
       holder-fits = λ c. rw (getD-alike {A = ℕ} mostFiles f 0);
       mark-fits = λ c p d. rw (getD-alike {A = ℕ} mostMarks (markAt f p) 0);
+      content-fits = λ c. rw (getD-replicate mostFiles f blankContent pastContents l);
       holder-blank = λ c. rw (getD-alike {A = ℕ} mostFiles f 0);
       mark-blank = λ c p d. rw (getD-alike {A = ℕ} mostMarks (markAt f p) 0);
       content-blank = λ c. rw (getD-replicate mostFiles f blankContent pastContents l);
@@ -146,7 +156,8 @@ pub misfit-fits-none : (s : Setup) → fits s misfit ≡ false
 unfolding fits misfit fileFits holderFits marksFit markFits fileIsBlank
 misfit-fits-none s =
     every-false mostFiles _ 0 (omega arith)
-    (cond-holds (λ (b : Bool). b ≡ false) (ltb 0 (s .files)) (λ t. every-false mostProcesses _ 0 (omega arith) refl)
+    (cond-holds (λ (b : Bool). b ≡ false) (ltb 0 (s .files))
+    (λ t. rw (every-false mostProcesses (λ p. markFits s 0 p (markOf misfit 0 p)) 0 (omega arith) refl))
     (λ t. rw (every-false mostProcesses (λ p. eqb (markOf misfit 0 p) 0) 0 (omega arith) refl)))
 
 -- what stands at a file's place, put there again, changes nothing
@@ -175,7 +186,7 @@ module _ (m : Store) (f g : ℕ) (h : g ≢ f) where
   putHolder-other holder = record { holder = getD-set-other (m .holders) f g holder 0 h; content = refl; mark = λ q l. refl }
 
   pub putContent-other : (content : Content) → Kept g m (putContent m f content)
-  putContent-other content = record { holder = refl; content = getD-set-other (m .contents) f g content pastContents h; mark = λ q l. refl }
+  putContent-other content = record { holder = refl; content = getD-set-other (m .cells) f g content pastContents h; mark = λ q l. refl }
 
   pub putMark-other : (p mark : ℕ) → p < mostProcesses → Kept g m (putMark m f p mark)
   putMark-other p mark k =

@@ -1,14 +1,13 @@
--- 01, "The eight calls": when each goes through, its effect, and its answer; and of "Lists and answers" calls as the numbers of a list.
+-- 01, "The eight calls", with 02, Req 02: when each goes through, its effect, and its answer; and of "Lists and answers" calls as the numbers of a list.
 use Prim.Native.Nat.{ℕ, _+_, _-_, _*_, _/_, _≤_}
 use mathlib.Core.Bool.{Bool, _&&_, _||_, cond}
 use mathlib.Core.List.{List, [], _∷_}
 use lib.ListN.{length, getD}
 use Rattle.rules.specs.Sizes.{mostNumber, table}
 use Rattle.rules.specs.Setups.{mayRead, mayWrite}
-use Rattle.rules.specs.Stores.{unlocked, lockedBy, holderOf, contentOf, hasOpen, putHolder, putContent, putMark}
+use Rattle.rules.specs.Stores.{Content, isWritten, unlocked, lockedBy, holderOf, contentOf, hasOpen, putHolder, putContent, putMark}
 use Rattle.rules.specs.declared.Numbers.{Numbers}
 use Rattle.rules.specs.declared.Setup.{Setup}
-use Rattle.rules.specs.declared.Content.{Content}
 use Rattle.rules.specs.declared.Store.{Store}
 use Rattle.rules.specs.declared.Call.{Call}
 use Rattle.rules.specs.declared.Call.the-variants.{Read, Write, Lock, Unlock, Open, Close, Testlock, Copy}
@@ -86,13 +85,15 @@ calls p f x =
 unfoldable pub callOf : Numbers → Call
 callOf n = getD (calls (n .process) (n .file) (n .extra)) (n .operation - firstCode) (Read (n .process) (n .file))
 
--- what READ, WRITE and COPY do with a file's content
+-- "answers the figure"; "READ of an unwritten file answers "nothing""
 abbrev pub readOf : Content → Answer
-readOf content = Figure (content .figure)
+readOf content = cond (isWritten content) (Figure (content .figure)) Nothing
 
+-- "figure of f becomes x", and "WRITE marks it written"
 abbrev pub writtenTo : Content → ℕ → Content
-writtenTo content x = record { figure = x }
+writtenTo content x = record { figure = x; written = 1 }
 
+-- "figure of x becomes that of f", and "COPY carries the mark with the figure"
 abbrev pub copiedTo : Content → Content → Content
 copiedTo content source = source
 

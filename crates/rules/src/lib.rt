@@ -111,10 +111,11 @@ pub struct Setup {
     pub class: [u8; FILES],
 }
 
-// What a file holds.
+// What a file holds: a figure, and the written mark, which is 1 in a written file and 0 in an unwritten one.
 #[repr(C)]
-pub struct Content {
+pub struct Cell {
     pub figure: u32,
+    pub written: u32,
 }
 
 // For each file who has it locked, what it holds, and who has it open.
@@ -122,7 +123,7 @@ pub struct Content {
 pub struct Store {
     // 0 for unlocked, else the process plus one.
     pub holders: [u32; FILES],
-    pub contents: [Content; FILES],
+    pub cells: [Cell; FILES],
     // 1 where the process has the file open, else 0.
     pub marks: [u8; MARKS],
 }
@@ -135,7 +136,7 @@ pub struct Numbers {
     pub extra: u32,
 }
 
-// A call of process p on file f; the third number is WRITE's figure, and the file that COPY writes.
+// A call of process p on file f; the third number is WRITE's figure, and the file that COPY changes.
 pub enum Call {
     Read(u32, u32),
     Write(u32, u32, u32),

@@ -11,7 +11,7 @@ use lib.Dec.{ltb, eqb}
 use lib.ListN.{length, getD, length-append, length-drop, length-replicate, getD-replicate, List·getD-append, List·getD-eq-default}
 use lib.Seq.{ext-getD, getD-append-add, getD-drop}
 use Rattle.rules.specs.Sizes.{every}
-use Rattle.rules.specs.declared.Content.{Content}
+use Rattle.rules.specs.Stores.{Content}
 use Rattle.rules.proofs.Lists.{by-test}
 use Rattle.rules.proofs.Sizes.{every-at, every-true, every-cong}
 use Rattle.lists.specs.declared.ListAnswer.{ListAnswer}
@@ -41,9 +41,16 @@ module _ {A : Type 0} (same : A → A → Bool) (tells : (x y : A) → (same x y
 pub numbers-tell : (x y : ℕ) → (eqb x y ≡ true) ↔ (x ≡ y)
 numbers-tell x y = (eqb-true x y, eq-eqb x y)
 
--- contents are told apart by their figures
-pub contents-tell : (x y : Content) → (eqb (x .figure) (y .figure) ≡ true) ↔ (x ≡ y)
-contents-tell x y = (λ e i. record { figure = eqb-true (x .figure) (y .figure) e i }, λ e. eq-eqb (x .figure) (y .figure) (ap (λ (z : Content). z .figure) e))
+-- contents are told apart by their figures and their written marks
+abbrev pub sameContent : Content → Content → Bool
+sameContent x y = eqb (x .figure) (y .figure) && eqb (x .written) (y .written)
+
+pub contents-tell : (x y : Content) → (sameContent x y ≡ true) ↔ (x ≡ y)
+contents-tell x y =
+    let t = told-both (numbers-tell (x .figure) (y .figure)) (numbers-tell (x .written) (y .written)) in (
+      λ e. let (f, w) = t .0 e in λ i. record { figure = f i; written = w i },
+      λ e. t .1 (ap (λ (z : Content). z .figure) e, ap (λ (z : Content). z .written) e),
+    )
 
 module _ (front : List ℕ) (n : ℕ) where
   pub written-length : length front ≤ n → length (writtenInto front (roomOf n)) ≡ n

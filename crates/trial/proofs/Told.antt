@@ -54,13 +54,13 @@ front-of-room (suc n) (suc k) h = ap (λ (l : List ℕ). untouched ∷ l) (front
 
 -- two stores are the same exactly where their three tables are
 pub store-told : (a b : Store) → length (a .holders) ≡ length (b .holders) → {x y z : Bool}
-    → (x ≡ true) ↔ (a .holders ≡ writtenInto (b .holders) (roomOf (length (a .holders)))) → (y ≡ true) ↔ (a .contents ≡ b .contents)
+    → (x ≡ true) ↔ (a .holders ≡ writtenInto (b .holders) (roomOf (length (a .holders)))) → (y ≡ true) ↔ (a .cells ≡ b .cells)
     → (z ≡ true) ↔ (a .marks ≡ b .marks) → (x && y && z ≡ true) ↔ (a ≡ b)
 store-told a b k {x} {y} {z} p q r =
     let whole : writtenInto (b .holders) (roomOf (length (a .holders))) ≡ b .holders = rw (k, drop-room (length (b .holders)) untouched) (append-nil (b .holders)) in
     let t = told-both (told-both (rw whole at p) q) r in (
-      λ e. let ((h, c), n) = t .0 e in λ i. record { holders = h i; contents = c i; marks = n i },
-      λ e. t .1 ((ap (λ (m : Store). m .holders) e, ap (λ (m : Store). m .contents) e), ap (λ (m : Store). m .marks) e),
+      λ e. let ((h, c), n) = t .0 e in λ i. record { holders = h i; cells = c i; marks = n i },
+      λ e. t .1 ((ap (λ (m : Store). m .holders) e, ap (λ (m : Store). m .cells) e), ap (λ (m : Store). m .marks) e),
     )
 
 -- a pair is told by its two numbers

@@ -1,4 +1,4 @@
--- The twelve sheets of trial come out as 01 says, by computation. That a store fits is cited: all else is computed.
+-- The twelve sheets of trial come out as 01, and 02 with Req 02, say, by computation. That a store fits is cited: all else is computed.
 -- Assumes nothing.
 use Prim.Native.Nat.{ℕ, zero, suc, _+_, _*_, _<_}
 use mathlib.Core.Path.{_≡_, refl, ap, _∙_}
@@ -77,7 +77,7 @@ eight-accepted = refl
 in-use-fits : fits q inUse ≡ true
 unfolding computes
 in-use-fits =
-    let written = fits-putContent q freshStore 0 (omega arith) (freshStore-fits q) (writtenTo blankContent 5) in
+    let written = fits-putContent q freshStore 0 (omega arith) (freshStore-fits q) (writtenTo blankContent 5) refl in
     fits-putMark q _ 0 (omega arith) (fits-putHolder q _ 0 (omega arith) written (0 + 1) refl) 1 1 (omega arith) refl
 
 pub in-use-not-fresh : inUse ≢ freshStore

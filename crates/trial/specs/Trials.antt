@@ -1,4 +1,4 @@
--- 01, "Twelve sheets of trial": the cases as one table, and what it means that a case comes out.
+-- 01, "Twelve sheets of trial", with what 02, Req 02 changes of them: the cases as one table, and what it means that a case comes out.
 use Prim.Native.Nat.{ℕ, _+_}
 use mathlib.Core.Path.{_≡_}
 use mathlib.Core.Option.{Option, none, some}
@@ -24,7 +24,7 @@ use Rattle.routes.specs.Reports as routes
 abbrev pub setupQ : SetupBytes
 setupQ = setupBytes 3 2 3 2 (2 ∷ 0 ∷ 1 ∷ 2 ∷ 0 ∷ 1 ∷ []) (0 ∷ 1 ∷ 2 ∷ []) (0 ∷ 1 ∷ [])
 
--- a store of Q that is not fresh: file 0 holds 5, process 0 has it locked, process 1 has it open
+-- a store of Q that is not fresh: file 0 is written and holds 5, process 0 has it locked, process 1 has it open
 unfoldable pub inUse : Store
 inUse = putMark (putHolder (putContent freshStore 0 (writtenTo blankContent 5)) 0 (0 + 1)) 0 1 1
 
@@ -38,13 +38,13 @@ pub data Case : Type 0 where
   -- from a desk to a desk a route, with room for so many numbers: the answer's pair, and the numbers of the list that is written
   route : SetupBytes → ℕ → ℕ → ℕ → ℕ × ℕ → List ℕ → Case
 
--- 1: "Q, fresh, process 1 opens and reads file 0: figure 0."
+-- 1: "Q, fresh, process 1 opens and reads file 0"; "Cases 1 and 2 now end in "nothing""
 abbrev pub case1 : Case
-case1 = calls setupQ freshStore (openCall 1 0 ∷ readCall 1 0 ∷ []) ((0, 0) ∷ (1, 0) ∷ []) none
+case1 = calls setupQ freshStore (openCall 1 0 ∷ readCall 1 0 ∷ []) ((0, 0) ∷ (0, 0) ∷ []) none
 
--- 2: "Q, process 0 writes 5 without a lock; process 1 opens, reads: figure 0."
+-- 2: "Q, process 0 writes 5 without a lock; process 1 opens, reads"; it ends so too
 abbrev pub case2 : Case
-case2 = calls setupQ freshStore (writeCall 0 0 5 ∷ openCall 1 0 ∷ readCall 1 0 ∷ []) ((0, 0) ∷ (0, 0) ∷ (1, 0) ∷ []) none
+case2 = calls setupQ freshStore (writeCall 0 0 5 ∷ openCall 1 0 ∷ readCall 1 0 ∷ []) ((0, 0) ∷ (0, 0) ∷ (0, 0) ∷ []) none
 
 -- 3: "Q, process 0 TESTLOCK of file 0 after its LOCK: nothing (no R)."
 abbrev pub case3 : Case
@@ -65,11 +65,11 @@ case5 = calls setupQ freshStore (numbers 9 9 0 0 ∷ []) ((4, 5) ∷ []) none
 abbrev pub case6 : Case
 case6 = calls setupQ freshStore (openCall 1 0 ∷ lockCall 0 0 ∷ readCall 1 0 ∷ []) ((0, 0) ∷ (0, 0) ∷ (0, 0) ∷ []) none
 
--- 7: "Case 6, then UNLOCK by process 0 and READ again: figure 0, with no second OPEN."
+-- 7: "Case 6, then UNLOCK by process 0 and READ again", with "a WRITE of 6 before its UNLOCK": "figure 6", "with no second OPEN"
 abbrev pub case7 : Case
 case7 =
-    calls setupQ freshStore (openCall 1 0 ∷ lockCall 0 0 ∷ readCall 1 0 ∷ unlockCall 0 0 ∷ readCall 1 0 ∷ [])
-    ((0, 0) ∷ (0, 0) ∷ (0, 0) ∷ (0, 0) ∷ (1, 0) ∷ []) none
+    calls setupQ freshStore (openCall 1 0 ∷ lockCall 0 0 ∷ readCall 1 0 ∷ writeCall 0 0 6 ∷ unlockCall 0 0 ∷ readCall 1 0 ∷ [])
+    ((0, 0) ∷ (0, 0) ∷ (0, 0) ∷ (0, 0) ∷ (0, 0) ∷ (1, 6) ∷ []) none
 
 -- 8: "Process 0 opens, process 1 locks and tests: yes."
 abbrev pub case8a : Case
@@ -105,12 +105,12 @@ case9b =
     ∷ readCall 2 1 ∷ [])
     ((0, 0) ∷ (0, 0) ∷ (0, 0) ∷ (0, 0) ∷ (0, 0) ∷ (0, 0) ∷ (0, 0) ∷ (0, 0) ∷ (1, 1) ∷ []) none
 
--- "With the first three calls removed the last line is `5`, `figure`, `0`."
+-- "the program case without its first three calls": the last line is `5`, `nothing`
 abbrev pub case9c : Case
 case9c =
     calls setupQ freshStore
     (openCall 1 0 ∷ lockCall 1 1 ∷ copyCall 1 0 1 ∷ unlockCall 1 1 ∷ openCall 2 1 ∷ readCall 2 1 ∷ [])
-    ((0, 0) ∷ (0, 0) ∷ (0, 0) ∷ (0, 0) ∷ (0, 0) ∷ (1, 0) ∷ []) none
+    ((0, 0) ∷ (0, 0) ∷ (0, 0) ∷ (0, 0) ∷ (0, 0) ∷ (0, 0) ∷ []) none
 
 -- 10: "Q, route 0 to 1: 5 calls. Route 2 to 0: none."
 abbrev pub case10a : Case

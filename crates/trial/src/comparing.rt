@@ -5,7 +5,7 @@ use routes::ROUTE_NUMBERS;
 use routes::RouteAnswer;
 use routes::report::report;
 use rules::CALL_WIDTH;
-use rules::Content;
+use rules::Cell;
 use rules::FILES;
 use rules::KIND_NO_ROUTE;
 use rules::KIND_REFUSED;
@@ -13,9 +13,10 @@ use rules::KIND_ROUTE;
 use rules::Setup;
 use rules::Store;
 ghost use mathlib.Core.Path.{_≡_};
-ghost use mathlib.Core.Bool.{true};
+ghost use mathlib.Core.Bool.{true, _&&_};
 ghost use mathlib.Core.Logic.{_↔_};
 ghost use Prim.Native.Nat.{_≤_};
+ghost use lib.Dec.{eqb};
 ghost use lib.ListN.{length, getD};
 ghost use Rattle.lists.specs.declared.ListAnswer.the-variants.{Ran};
 ghost use Rattle.routes.specs.Reports.{mostRouteNumbers, routeNumbersOf};
@@ -113,12 +114,18 @@ pub fn reports(setup: Setup, a: u32, b: u32, n: usize, kind: u32, value: u32, li
     reports_in(setup, a, b, &mut room[..n], kind, value, list)
 }
 
-fn same_contents(a: [Content; FILES], b: [Content; FILES]) -> bool
+fn same_content(a: Cell, b: Cell) -> bool
+    ensures { λ r. ⌜ r ≡ eqb (a .figure) (b .figure) && eqb (a .written) (b .written) ⌝ }
+{
+    (a.figure == b.figure) & (a.written == b.written)
+}
+
+fn same_contents(a: [Cell; FILES], b: [Cell; FILES]) -> bool
     ensures { λ r. ⌜ (r ≡ true) ↔ (a ≡ b) ⌝ }
 {
     let mut i = 0;
     while i < FILES {
-        if a[i].figure != b[i].figure {
+        if !same_content(a[i], b[i]) {
             return false;
         }
         i += 1;
@@ -129,8 +136,8 @@ fn same_contents(a: [Content; FILES], b: [Content; FILES]) -> bool
 fn same_store(a: Store, b: Store) -> bool
     ensures { λ r. ⌜ (r ≡ true) ↔ (a ≡ b) ⌝ }
 {
-    let left = a.contents;
-    let right = b.contents;
+    let left = a.cells;
+    let right = b.cells;
     holds(&a.holders, &b.holders) & same_contents(left, right) & check::same(&a.marks, &b.marks)
 }
 

@@ -24,6 +24,34 @@ ghost use Rattle.trial.specs.Trials.{setupQ, inUse};
 // A room one number short of what every list fits into.
 const SHORT_ROOM: usize = 243;
 
+// The six calls of case 7.
+const SEVEN: [u32; 6 * CALL_WIDTH] = [
+    5,
+    1,
+    0,
+    0,
+    3,
+    0,
+    0,
+    0,
+    1,
+    1,
+    0,
+    0,
+    2,
+    0,
+    0,
+    6,
+    4,
+    0,
+    0,
+    0,
+    1,
+    1,
+    0,
+    0,
+];
+
 // The nine calls of the program case.
 const NINE: [u32; 9 * CALL_WIDTH] = [
     3,
@@ -70,14 +98,14 @@ const THREE: usize = 3 * CALL_WIDTH;
 fn cases_1_to_7(q: Setup, fresh: Store)
     requires { ⌜ (q ≡ acceptance setupQ .setup) × (fresh ≡ freshStore) ⌝ }
 {
-    // 1: OPEN and READ: figure 0.
-    expect(answers(q, fresh, &[5, 1, 0, 0, 1, 1, 0, 0], &[0, 0, 1, 0]));
-    // 2: WRITE with no lock, OPEN, READ: figure 0.
+    // 1: OPEN and READ of an unwritten file: nothing.
+    expect(answers(q, fresh, &[5, 1, 0, 0, 1, 1, 0, 0], &[0, 0, 0, 0]));
+    // 2: WRITE with no lock, OPEN, READ: nothing.
     expect(answers(
         q,
         fresh,
         &[2, 0, 0, 5, 5, 1, 0, 0, 1, 1, 0, 0],
-        &[0, 0, 0, 0, 1, 0],
+        &[0, 0, 0, 0, 0, 0],
     ));
     // 3: LOCK, TESTLOCK with no R: nothing.
     expect(answers(q, fresh, &[3, 0, 0, 0, 7, 0, 0, 0], &[0, 0, 0, 0]));
@@ -93,13 +121,8 @@ fn cases_1_to_7(q: Setup, fresh: Store)
         &[5, 1, 0, 0, 3, 0, 0, 0, 1, 1, 0, 0],
         &[0, 0, 0, 0, 0, 0],
     ));
-    // 7: the same, UNLOCK, READ with no second OPEN: figure 0.
-    expect(answers(
-        q,
-        fresh,
-        &[5, 1, 0, 0, 3, 0, 0, 0, 1, 1, 0, 0, 4, 0, 0, 0, 1, 1, 0, 0],
-        &[0, 0, 0, 0, 0, 0, 0, 0, 1, 0],
-    ));
+    // 7: the same, WRITE of 6, UNLOCK, READ with no second OPEN: figure 6.
+    expect(answers(q, fresh, &SEVEN, &[0, 0, 0, 0, 0, 0, 0, 0, 0, 0, 1, 6]));
 }
 
 // OPEN by desk 0, LOCK and TESTLOCK by desk 1: yes; and yes without desk 0's call.
@@ -131,7 +154,7 @@ fn case_9(q: Setup, fresh: Store)
         q,
         fresh,
         &NINE[THREE..],
-        &[0, 0, 0, 0, 0, 0, 0, 0, 0, 0, 1, 0],
+        &[0, 0, 0, 0, 0, 0, 0, 0, 0, 0, 0, 0],
     ));
 }
 

@@ -6,9 +6,8 @@ use mathlib.Core.Path.{_≡_, refl, sym, _∙_}
 use lib.ListN.{length-set}
 use Rattle.secrecy.specs.Views.{Equivalence}
 use Rattle.rules.specs.Sizes.{mostProcesses}
-use Rattle.rules.specs.Stores.{pastContents, holderOf, contentOf, markAt, markOf, putHolder, putContent, putMark}
+use Rattle.rules.specs.Stores.{Content, pastContents, holderOf, contentOf, markAt, markOf, putHolder, putContent, putMark}
 use Rattle.rules.specs.declared.Setup.{Setup}
-use Rattle.rules.specs.declared.Content.{Content}
 use Rattle.rules.specs.declared.Store.{Store}
 use Rattle.rules.proofs.Stores.{markAt-apart, putHolder-own, putContent-own, putMark-own}
 use Rattle.views.specs.Views.{Sees, SameOf, Alike}
@@ -52,7 +51,7 @@ module _ (s : Setup) (u : ℕ) where
           meets =
               λ q f o.
               let old = alike .meets q f o in
-              let now = both-set (m .contents) (k .contents) g f pastContents (λ j. alike .lengths j .1) (old .content) (λ e. new q (rw e at o)) in
+              let now = both-set (m .cells) (k .cells) g f pastContents (λ j. alike .lengths j .1) (old .content) (λ e. new q (rw e at o)) in
               record { holder = old .holder; content = now; mark = old .mark };
         }
 

@@ -31,7 +31,7 @@ pub record SameOf (q f : ℕ) (m k : Store) : Type 0 where
 
 -- how long the lists are that stand for a store's arrays
 abbrev pub lengthsOf : Store → ℕ × ℕ × ℕ
-lengthsOf m = (length (m .holders), length (m .contents), length (m .marks))
+lengthsOf m = (length (m .holders), length (m .cells), length (m .marks))
 
 -- the stores look alike to desk u: each of its processes meets the same of each file that the desk may read; a desk with no
 -- process sees nothing

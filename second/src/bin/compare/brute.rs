@@ -1,10 +1,10 @@
 //! Demand 3 by brute force: random lists searched for a difference that one desk makes at another.
 
-use crate::calls::lent;
+use crate::calls::{doing, lent};
 use crate::case::Case;
 use crate::random::Random;
 use crate::setups;
-use second::call::{code, step, Answer, Call};
+use second::call::{step, Answer, Call};
 use second::route::{chain, report, Report};
 use second::rules::Rules;
 use second::setup::Setup;
@@ -59,43 +59,6 @@ fn heard(setup: &Setup, calls: &[Call], desk: u32) -> Vec<Answer> {
 
 fn differs(setup: &Setup, calls: &[Call], a: u32, b: u32) -> bool {
     heard(setup, calls, b) != heard(setup, &struck(setup, calls, a), b)
-}
-
-/// The files that a process's desk may read, and those that it may write.
-fn files_of(setup: &Setup, process: u32) -> (Vec<u32>, Vec<u32>) {
-    let files = |may: fn(&Setup, usize, usize) -> bool| {
-        (0..setup.files).filter(|&file| may(setup, process as usize, file as usize)).collect()
-    };
-    (files(Setup::reads), files(Setup::writes))
-}
-
-/// Some calls of one process that belong together, as its desk's rights allow; now and then one lacks.
-fn doing(random: &mut Random, setup: &Setup) -> Vec<Call> {
-    let process = random.below(setup.processes as usize) as u32;
-    let (readable, writable) = files_of(setup, process);
-    let call = |operation, file, extra| Call { operation, process, file, extra };
-    let mut calls = Vec::new();
-    if !readable.is_empty() {
-        let file = random.pick(&readable);
-        calls.extend([call(code::OPEN, file, 0), call(code::READ, file, 0)]);
-    }
-    if !writable.is_empty() && random.below(3) > 0 {
-        let target = random.pick(&writable);
-        let figure = random.between(1, 3) as u32;
-        let put = match calls.first() {
-            Some(open) if random.below(3) > 0 => call(code::COPY, open.file, target),
-            _ => call(code::WRITE, target, figure),
-        };
-        calls.extend([call(code::LOCK, target, 0), put, call(code::TESTLOCK, target, 0)]);
-        calls.push(call(code::UNLOCK, target, 0));
-    }
-    if random.once_in(8) {
-        let file = random.below(setup.files as usize) as u32;
-        let operation = random.between(code::READ as usize, code::COPY as usize) as u32;
-        calls.push(call(operation, file, random.below(2) as u32));
-    }
-    calls.retain(|_| !random.once_in(10));
-    calls
 }
 
 fn searching_list(random: &mut Random, setup: &Setup) -> Vec<Call> {

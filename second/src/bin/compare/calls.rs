@@ -1,6 +1,7 @@
 //! Calls and lists at random: sensible calls that mean something to the store at hand, and wild ones.
 
 use crate::random::Random;
+use crate::stores;
 use second::call::{code, obstacle, refusal_of, step, Call, Obstacle};
 use second::rules::Rules;
 use second::setup::Setup;
@@ -9,6 +10,12 @@ use second::store::Store;
 
 /// How often a call of the wanted outcome is looked for.
 const TRIES: usize = 40;
+
+/// In a list, once in so many times come calls that belong together.
+const DOINGS: usize = 10;
+
+/// How many figures these write, 0 among them.
+const FIGURES: usize = 4;
 
 const OBSTACLES: [Obstacle; 9] = [
     Obstacle::NoR,
@@ -26,7 +33,7 @@ const OBSTACLES: [Obstacle; 9] = [
 fn plain(random: &mut Random, setup: &Setup, operation: u32) -> Call {
     let file = random.below(setup.files as usize) as u32;
     let extra = match operation {
-        code::WRITE => random.wild(),
+        code::WRITE => stores::figure(random),
         code::COPY => random.below(setup.files as usize) as u32,
         _ => 0,
     };
@@ -118,15 +125,58 @@ pub fn meaningless(random: &mut Random) -> Call {
     }
 }
 
-/// A list of so many calls, each chosen for the store as it will then be.
+/// The files that a process's desk may read, and those that it may write.
+fn files_of(setup: &Setup, process: u32) -> (Vec<u32>, Vec<u32>) {
+    let files = |may: fn(&Setup, usize, usize) -> bool| {
+        (0..setup.files).filter(|&file| may(setup, process as usize, file as usize)).collect()
+    };
+    (files(Setup::reads), files(Setup::writes))
+}
+
+/// Some calls of one process that belong together, as its desk's rights allow; now and then one lacks.
+pub fn doing(random: &mut Random, setup: &Setup) -> Vec<Call> {
+    let process = random.below(setup.processes as usize) as u32;
+    let (readable, writable) = files_of(setup, process);
+    let call = |operation, file, extra| Call { operation, process, file, extra };
+    let mut calls = Vec::new();
+    if !readable.is_empty() {
+        let file = random.pick(&readable);
+        calls.extend([call(code::OPEN, file, 0), call(code::READ, file, 0)]);
+    }
+    if !writable.is_empty() && random.below(3) > 0 {
+        let target = random.pick(&writable);
+        let figure = random.below(FIGURES) as u32;
+        let put = match calls.first() {
+            Some(open) if random.below(3) > 0 => call(code::COPY, open.file, target),
+            _ => call(code::WRITE, target, figure),
+        };
+        calls.extend([call(code::LOCK, target, 0), put, call(code::TESTLOCK, target, 0)]);
+        calls.push(call(code::UNLOCK, target, 0));
+    }
+    if random.once_in(8) {
+        let file = random.below(setup.files as usize) as u32;
+        let operation = random.between(code::READ as usize, code::COPY as usize) as u32;
+        calls.push(call(operation, file, random.below(2) as u32));
+    }
+    calls.retain(|_| !random.once_in(10));
+    calls
+}
+
+/// A list of so many calls, each chosen for the store as it will then be; now and then some that belong together.
 pub fn list(random: &mut Random, setup: &Setup, store: &Store, count: usize) -> Vec<u32> {
     let mut later = store.clone();
     let mut numbers = Vec::with_capacity(count * CALL_WIDTH);
-    for _ in 0..count {
-        let call = any(random, setup, &later);
-        step(Rules::UNTURNED, setup, &mut later, call);
-        numbers.extend(call.numbers());
+    while numbers.len() < count * CALL_WIDTH {
+        let next = match random.below(DOINGS) {
+            0 => doing(random, setup),
+            _ => vec![any(random, setup, &later)],
+        };
+        for call in next {
+            step(Rules::UNTURNED, setup, &mut later, call);
+            numbers.extend(call.numbers());
+        }
     }
+    numbers.truncate(count * CALL_WIDTH);
     numbers
 }
 

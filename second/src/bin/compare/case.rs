@@ -91,7 +91,7 @@ impl Body {
     }
 
     fn store(self, store: &Store) -> Body {
-        self.numbers(&store.holders).numbers(&store.figures).bytes(&store.marks)
+        self.numbers(&store.holders).numbers(&store.cell_numbers()).bytes(&store.marks)
     }
 }
 

@@ -5,7 +5,7 @@ use second::call::{code, Call};
 use second::refusal::Refusal;
 use second::setup::{right_at, Setup, SetupBytes, RW};
 use second::sizes::{CLASSES, DESKS, FILES, PROCESSES, ROUTE_NUMBERS};
-use second::store::{mark_at, Store, OPEN};
+use second::store::{mark_at, Cell, Store, OPEN, WRITTEN};
 
 pub const COUNT_CAUSES: [&str; 8] = [
     "desks 0",
@@ -36,16 +36,23 @@ pub const SETUP_CAUSES: [&str; 15] = [
     "a class past the files",
 ];
 
-pub const STORE_CAUSES: [&str; 8] = [
+pub const STORE_CAUSES: [&str; 12] = [
     "held by a process that does not exist",
     "held without W",
     "open without R",
-    "a mark above 1",
+    "an open mark above 1",
     "open for a process that does not exist",
     "a file past the files is locked",
-    "a file past the files has a figure",
     "a file past the files is open",
+    "a written mark above 1",
+    "an unwritten file has a figure",
+    "a file past the files has a figure",
+    "a file past the files is written",
+    "a file past the files has a written mark above 1",
 ];
+
+/// Where the causes begin that lie in the cells.
+const CELL_CAUSES: usize = 7;
 
 pub const SLICE_CAUSES: [&str; 6] = [
     "rights too short",
@@ -100,17 +107,37 @@ pub fn of_store(setup: &Setup, store: &Store) -> Vec<&'static str> {
         found[0] |= exists && held > processes;
         found[1] |= exists && (1..=processes).contains(&held) && !setup.writes(held - 1, file);
         found[5] |= !exists && held != 0;
-        found[6] |= !exists && store.figures[file] != 0;
+        let cell_causes = of_cell(store.cells[file], exists);
+        let cells = found[CELL_CAUSES..].iter_mut().zip(cell_causes);
+        cells.for_each(|(found, has)| *found |= has);
         for process in 0..PROCESSES {
             let mark = store.marks[mark_at(file, process)];
             let open = exists && mark == OPEN;
             found[2] |= open && process < processes && !setup.reads(process, file);
             found[3] |= exists && mark > OPEN;
             found[4] |= open && process >= processes;
-            found[7] |= !exists && mark != 0;
+            found[6] |= !exists && mark != 0;
         }
     }
     STORE_CAUSES.iter().zip(found).filter(|(_, found)| *found).map(|(&name, _)| name).collect()
+}
+
+/// For each cause of a cell whether this one has it. Past the files a figure and a written mark are two causes,
+/// so that each is also met by itself.
+fn of_cell(cell: Cell, exists: bool) -> [bool; STORE_CAUSES.len() - CELL_CAUSES] {
+    let Cell { figure, written } = cell;
+    [
+        exists && written > WRITTEN,
+        exists && written == 0 && figure != 0,
+        !exists && figure != 0,
+        !exists && written == WRITTEN,
+        !exists && written > WRITTEN,
+    ]
+}
+
+/// Whether a cell has what no cell of any file may have.
+pub fn has_unsound_cell(store: &Store) -> bool {
+    store.cells.iter().any(|&cell| of_cell(cell, true).contains(&true))
 }
 
 /// The slices of a setup's bytes that do not match its counts.

@@ -1,6 +1,7 @@
 //! What a call counts for: how it went, and what it answered.
 
 use crate::causes::{all_of_call, of_setup, of_store};
+use crate::count_cells;
 use crate::counts::Counts;
 use crate::tally::Table;
 use second::call::{code, obstacle, step, Answer, Call, Obstacle};
@@ -15,7 +16,7 @@ pub const BY_VALUE: usize = 0;
 pub const IN_PLACE: usize = 1;
 pub const IN_A_LIST: usize = 2;
 pub const IN_A_TEXT: usize = 3;
-const WAYS: [&str; 4] = ["by value", "in place", "in a list", "in a text"];
+pub const WAYS: [&str; 4] = ["by value", "in place", "in a list", "in a text"];
 
 const NAMES: [&str; 9] =
     ["", "READ", "WRITE", "LOCK", "UNLOCK", "OPEN", "CLOSE", "TESTLOCK", "COPY"];
@@ -176,7 +177,10 @@ fn meet_judged(counts: &mut Counts, held: (&Setup, &Store), call: Call, way: usi
         None => {
             let outcome = match obstacle(Rules::UNTURNED, setup, store, call) {
                 Some(obstacle) => obstacle_name(obstacle),
-                None => through_name(store, call),
+                None => {
+                    count_cells::meet_through(counts, store, call, way);
+                    through_name(store, call)
+                }
             };
             format!("{}: {outcome}", NAMES[call.operation as usize])
         }

@@ -3,6 +3,7 @@
 use crate::case::Case;
 use crate::causes::{self, COUNT_CAUSES, SETUP_CAUSES, SLICE_CAUSES, STORE_CAUSES};
 use crate::count_calls;
+use crate::count_cells;
 use crate::count_grids;
 use crate::count_routes;
 use crate::count_texts;
@@ -10,7 +11,7 @@ use crate::tally::Table;
 use second::refusal::Refusal;
 use second::setup::{Setup, SetupBytes};
 use second::sizes::{ANSWER_WIDTH, CALLS, CALL_WIDTH, LIST_NUMBERS};
-use second::store::Store;
+use second::store::{Store, NO_MARK};
 
 /// The entries that judge a setup, in the columns of their table.
 pub mod entry {
@@ -30,6 +31,7 @@ pub struct Counts {
     pub stores: Table,
     pub calls: Table,
     pub answers: Table,
+    pub cells: Table,
     pub lists: Table,
     pub routes: Table,
     pub texts: Table,
@@ -37,6 +39,11 @@ pub struct Counts {
 }
 
 const ENTRIES: [&str; 7] = ["fresh", "judge", "by value", "in place", "list", "route", "grid"];
+
+const ALIKE: &str = "fits, not fresh, all files written or none";
+const MIXED: &str = "fits, not fresh, some files written and some not";
+const OPEN_MARK_LATER: &str = "15 before 16, an open mark above 1";
+const CELL_LATER: &str = "15 before 16, a cell that is none";
 
 pub const TEXTS_TOTAL: &str = "texts through the program";
 pub const CALLS_TOTAL: &str = "calls through the library";
@@ -55,6 +62,7 @@ impl Counts {
             stores: stores(),
             calls: count_calls::calls(),
             answers: count_calls::answers(),
+            cells: count_cells::cells(),
             lists: lists(),
             routes: count_routes::routes(),
             texts: count_texts::texts(),
@@ -62,7 +70,7 @@ impl Counts {
         }
     }
 
-    pub fn tables(&self) -> [&Table; 10] {
+    pub fn tables(&self) -> [&Table; 11] {
         [
             &self.totals,
             &self.accepts,
@@ -70,6 +78,7 @@ impl Counts {
             &self.stores,
             &self.calls,
             &self.answers,
+            &self.cells,
             &self.lists,
             &self.routes,
             &self.texts,
@@ -154,14 +163,18 @@ impl Counts {
         let sound = causes::of_setup(setup).is_empty();
         let column = column - entry::JUDGE;
         if !sound {
-            if store.marks.contains(&2) {
-                self.stores.met("15 before 16", column);
+            if store.marks.contains(&NO_MARK) {
+                self.stores.met(OPEN_MARK_LATER, column);
+            }
+            if causes::has_unsound_cell(store) {
+                self.stores.met(CELL_LATER, column);
             }
             return;
         }
         match causes::of_store(setup, store)[..] {
             [] if *store == Store::FRESH => self.stores.met("fits, fresh", column),
-            [] => self.stores.met("fits, not fresh", column),
+            [] if count_cells::is_mixed(setup, store) => self.stores.met(MIXED, column),
+            [] => self.stores.met(ALIKE, column),
             [cause] => self.stores.met(&format!("16: {cause}"), column),
             _ => self.stores.met("16: several causes", column),
         }
@@ -244,10 +257,12 @@ fn setups() -> Table {
 fn stores() -> Table {
     let mut table = Table::new("Stores handed in", &ENTRIES[entry::JUDGE..=entry::LIST]);
     table.row("fits, fresh", 50);
-    table.row("fits, not fresh", 50);
-    STORE_CAUSES.iter().for_each(|cause| table.row(&format!("16: {cause}"), 3));
-    table.row("16: several causes", 3);
-    table.row("15 before 16", 3);
+    table.row(ALIKE, 50);
+    table.row(MIXED, 50);
+    STORE_CAUSES.iter().for_each(|cause| table.row(&format!("16: {cause}"), 8));
+    table.row("16: several causes", 50);
+    table.row(OPEN_MARK_LATER, 50);
+    table.row(CELL_LATER, 50);
     table
 }
 

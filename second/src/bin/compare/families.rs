@@ -2,6 +2,7 @@
 
 use crate::calls;
 use crate::case::Case;
+use crate::cells;
 use crate::grids;
 use crate::random::Random;
 use crate::routes;
@@ -25,6 +26,9 @@ pub struct Family {
 
 pub const ROUTES: &str = "routes";
 
+/// A setup, a store of it, and a call.
+pub type Held = (Box<Setup>, Box<Store>, Call);
+
 pub const FAMILIES: [Family; 11] = [
     Family {
         name: "setup bytes",
@@ -33,10 +37,10 @@ pub const FAMILIES: [Family; 11] = [
         make: |random| Case::Accept(setups::bytes(random)),
     },
     Family { name: "fresh stores", hand_made: Vec::new, count: 2_500, make: fresh },
-    Family { name: "judging", hand_made: Vec::new, count: 5_000, make: judge },
+    Family { name: "judging", hand_made: cells::judged, count: 5_000, make: judge },
     Family { name: "calls by value", hand_made: by_value, count: 12_000, make: call },
     Family { name: "calls in place", hand_made: in_place, count: 12_000, make: call_in_place },
-    Family { name: "lists", hand_made: walk_as_list, count: 5_000, make: list },
+    Family { name: "lists", hand_made: lists_by_hand, count: 5_000, make: list },
     Family { name: ROUTES, hand_made: routes_of_q, count: 7_000, make: routes::case },
     Family { name: "setup texts read alone", hand_made: alone_by_hand, count: 2_000, make: alone },
     Family {
@@ -66,7 +70,7 @@ fn setup(random: &mut Random) -> Setup {
 /// A store for a setup that may be forged: fitting most often.
 fn store(random: &mut Random, setup: &Setup) -> Store {
     if !second::setup::could_be_accepted(Rules::UNTURNED, setup) {
-        return random.pick(&[Store::FRESH, Store::REFUSED]);
+        return if random.once_in(2) { Store::FRESH } else { stores::fitting_none(random) };
     }
     match random.below(5) {
         0 => stores::forged(random, setup),
@@ -86,7 +90,7 @@ fn judge(random: &mut Random) -> Case {
 }
 
 /// A call that is wanted, with a setup and a store that were searched for it.
-fn wanted_call(random: &mut Random) -> Option<(Box<Setup>, Box<Store>, Call)> {
+fn wanted_call(random: &mut Random) -> Option<Held> {
     const SEARCHED: usize = 8;
     let wanted = calls::wanted(random);
     for _ in 0..SEARCHED {
@@ -99,8 +103,7 @@ fn wanted_call(random: &mut Random) -> Option<(Box<Setup>, Box<Store>, Call)> {
     None
 }
 
-/// A setup, a store and a call.
-fn held_call(random: &mut Random) -> (Box<Setup>, Box<Store>, Call) {
+fn held_call(random: &mut Random) -> Held {
     let wanted = if random.once_in(3) { wanted_call(random) } else { None };
     if let Some(held) = wanted {
         return held;
@@ -142,11 +145,14 @@ fn list(random: &mut Random) -> Case {
     Case::List { setup: Box::new(setup), store: Box::new(store), calls, answers }
 }
 
-/// A list that meets every condition of every call.
-fn walk_as_list() -> Vec<Case> {
+/// A list that meets every condition of every call, and short ones about what files hold.
+fn lists_by_hand() -> Vec<Case> {
     let (setup, calls) = texts::walk();
     let answers = vec![7; calls.len()];
-    vec![Case::List { setup: Box::new(setup), store: Box::new(Store::FRESH), calls, answers }]
+    let (setup, store) = (Box::new(setup), Box::new(Store::FRESH));
+    let mut cases = vec![Case::List { setup, store, calls, answers }];
+    cases.extend(cells::lists());
+    cases
 }
 
 /// Room for the calls of a text: enough, with a tail, or too short.
@@ -213,11 +219,11 @@ pub fn two_desks() -> Setup {
     setup
 }
 
-/// Every call of small numbers on a few stores of the two setups.
-fn every_call() -> Vec<(Box<Setup>, Box<Store>, Call)> {
+/// Every call of small numbers on a few stores of the two setups, and those that turn on what files hold.
+fn every_call() -> Vec<Held> {
     const BEFORE: [[u32; CALL_WIDTH]; 6] =
         [[5, 1, 0, 0], [3, 1, 0, 0], [2, 1, 0, 5], [5, 2, 1, 0], [3, 1, 1, 0], [5, 0, 0, 0]];
-    let mut cases = Vec::new();
+    let mut cases = cells::calls();
     for setup in [q(), two_desks()] {
         let mut store = Store::FRESH;
         for before in BEFORE {

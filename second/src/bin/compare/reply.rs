@@ -2,7 +2,7 @@
 
 use crate::programs::Found;
 use second::setup::Setup;
-use second::sizes::{FILES, MARKS};
+use second::sizes::{CELL_WIDTH, FILES, MARKS};
 use second::store::Store;
 
 /// The guards that the driver lays around each lent run.
@@ -21,8 +21,12 @@ const AFTER: &str = "the guard after ";
 pub const WORD: usize = 4;
 const LENGTH: usize = 8;
 
-/// The bytes of a store: the holders, the figures, the marks.
-pub const STORE_BYTES: usize = 2 * FILES * WORD + MARKS;
+/// The bytes of a store: the holders, the cells, the open marks.
+pub const STORE_BYTES: usize = (1 + CELL_WIDTH) * FILES * WORD + MARKS;
+
+/// The part of a store that is told by its fields, and these.
+const CELLS: &str = "cells";
+const CELL_FIELDS: [&str; CELL_WIDTH] = ["figure", "written"];
 
 /// A part of a reply: its name, which guard of that name it is if it is one, the bytes of one entry,
 /// and how many bytes it has.
@@ -68,7 +72,7 @@ impl Reply {
 
     pub fn store(self, store: &Store) -> Reply {
         self.numbers("holders", &store.holders)
-            .numbers("figures", &store.figures)
+            .numbers(CELLS, &store.cell_numbers())
             .bytes("marks", &store.marks)
     }
 
@@ -140,7 +144,16 @@ fn told(part: &Part, place: usize, given: Option<&[u8]>, due: &[u8]) -> String {
     };
     let given = given.map_or("an end".to_string(), value);
     let Part { name, guard, .. } = part;
-    format!("{guard}{name}[{place}]: the first program has {given}, the second {}", value(due))
+    let entry = entry(name, place);
+    format!("{guard}{entry}: the first program has {given}, the second {}", value(due))
+}
+
+/// An entry of a part as the C header would have it.
+fn entry(name: &str, place: usize) -> String {
+    match name {
+        CELLS => format!("{name}[{}].{}", place / CELL_WIDTH, CELL_FIELDS[place % CELL_WIDTH]),
+        _ => format!("{name}[{place}]"),
+    }
 }
 
 /// The first line that two outputs do not share.
@@ -160,4 +173,37 @@ fn told_output(found: &[u8], due: &[u8]) -> String {
         line(&found),
         line(&due)
     )
+}
+
+#[cfg(test)]
+mod tests {
+    use super::*;
+    use second::store::Cell;
+
+    /// The bytes of a store by the C header's own number.
+    const HEADER_BYTES: usize = 2432;
+
+    #[test]
+    fn a_store_is_as_long_as_the_header_has_it() {
+        assert_eq!(STORE_BYTES, HEADER_BYTES);
+        assert_eq!(Reply::default().store(&Store::FRESH).bytes.len(), HEADER_BYTES);
+    }
+
+    #[test]
+    fn a_cell_lies_behind_the_holders_and_is_told_by_its_fields() {
+        let mut store = Store::FRESH;
+        store.cells[3] = Cell::of(5);
+        let (fresh, other) =
+            (Reply::default().store(&Store::FRESH), Reply::default().store(&store));
+        let place = FILES + 3 * CELL_WIDTH;
+        assert_eq!(
+            [number(&other.bytes, place), number(&other.bytes, place + 1)],
+            [Some(5), Some(1)]
+        );
+        let told = fresh.difference(&Ok(other.bytes));
+        assert_eq!(told, "cells[3].figure: the first program has 5, the second 0");
+        store.cells[3].figure = 0;
+        let told = fresh.difference(&Ok(Reply::default().store(&store).bytes));
+        assert_eq!(told, "cells[3].written: the first program has 1, the second 0");
+    }
 }

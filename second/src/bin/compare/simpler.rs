@@ -8,7 +8,7 @@ use second::route::chain;
 use second::rules::Rules;
 use second::setup::{could_be_accepted, right_at, Setup, SetupBytes};
 use second::sizes::{CALL_WIDTH, CLASSES, DESKS, FILES, LIST_NUMBERS, PROCESSES};
-use second::store::{mark_at, Store};
+use second::store::{mark_at, Cell, Store};
 use second::text::{read_alone, read_with_calls};
 
 /// A way to make a case simpler.
@@ -137,12 +137,16 @@ fn ways_of_store(store: &Store) -> Vec<Part<Store>> {
     let mut ways: Vec<Part<Store>> = vec![
         Box::new(|store| *store = Store::FRESH),
         Box::new(|store| store.marks.fill(0)),
-        Box::new(|store| store.figures.fill(0)),
+        Box::new(|store| store.cells.fill(Cell::UNWRITTEN)),
         Box::new(|store| store.holders.fill(0)),
     ];
     for file in 0..FILES {
         ways.push(Box::new(move |store| store.holders[file] = 0));
-        ways.push(Box::new(move |store| store.figures[file] = 0));
+    }
+    for file in (0..FILES).filter(|&file| store.cells[file] != Cell::UNWRITTEN) {
+        ways.push(Box::new(move |store| store.cells[file] = Cell::UNWRITTEN));
+        ways.push(Box::new(move |store| store.cells[file].figure = 0));
+        ways.push(Box::new(move |store| store.cells[file].written = 0));
     }
     for place in (0..store.marks.len()).filter(|&place| store.marks[place] != 0) {
         ways.push(Box::new(move |store| store.marks[place] = 0));
@@ -264,7 +268,7 @@ fn drop_file(case: &mut Case, file: usize) {
     drop_entry(&mut setup.class_of, file);
     if let Some(store) = store_in(case) {
         drop_entry(&mut store.holders, file);
-        drop_entry(&mut store.figures, file);
+        drop_entry(&mut store.cells, file);
         store.marks.copy_within(mark_at(file + 1, 0).., mark_at(file, 0));
         store.marks[mark_at(FILES - 1, 0)..].fill(0);
     }

@@ -127,9 +127,10 @@ fn tell_store(store: &Store) -> String {
         return "  a fresh store\n".to_string();
     }
     format!(
-        "{}{}{}",
+        "{}{}{}{}",
         tell_entries("holders", &store.holders, 0),
-        tell_entries("figures", &store.figures, 0),
-        tell_entries("marks", &store.marks, PROCESSES)
+        tell_entries("figures", &store.cells.map(|cell| cell.figure), 0),
+        tell_entries("written marks", &store.cells.map(|cell| cell.written), 0),
+        tell_entries("open marks", &store.marks, PROCESSES)
     )
 }

@@ -107,6 +107,13 @@ fn base(with_calls: bool) -> Vec<Line> {
     lines
 }
 
+/// The base without its first three calls: what it copies and reads is unwritten then.
+fn silent() -> Vec<Line> {
+    let (calls, first_three) = (base_calls(), 1..4);
+    let kept = (0..calls.len()).filter(|place| !first_three.contains(place));
+    base_setup().into_iter().chain(kept.map(|place| calls[place].clone())).collect()
+}
+
 /// The setup that has every count at its least, and one that has every count at its most.
 fn at_limits() -> [Vec<Line>; 2] {
     let full = |counts: [usize; 4]| {
@@ -195,6 +202,7 @@ fn named(with_calls: bool) -> Vec<Vec<u8>> {
     texts.extend((0..whole.len()).step_by(7).map(|length| whole[..length].to_vec()));
     texts.extend(at_limits().iter().map(|lines| join(lines)));
     if with_calls {
+        texts.push(join(&silent()));
         let (setup, calls) = walk();
         texts.push(join(&[setup_lines(&setup), call_lines(&calls)].concat()));
         texts.extend(at_limits().iter().map(|lines| {
@@ -261,7 +269,7 @@ fn ordered(with_calls: bool) -> Vec<Vec<u8>> {
     [(0, &counts[..])].into_iter().chain(LINES).map(broken).collect()
 }
 
-/// A setup, and calls from a fresh store that meet every condition of every call.
+/// A setup, and calls from a fresh store that meet every condition of every call, and every cell.
 pub fn walk() -> (Setup, Vec<u32>) {
     const LINES: &str =
         "store\t1\t3\t2\t4\t4\naccess\t0\t0\tR\naccess\t1\t0\tRW\naccess\t1\t1\tR\n\
@@ -276,7 +284,11 @@ pub fn walk() -> (Setup, Vec<u32>) {
         close\t2\t0\nclose\t2\t0\nclose\t3\t0\nopen\t3\t0\nread\t3\t0\nunlock\t1\t0\n\
         open\t2\t1\nopen\t1\t0\ncopy\t1\t0\t1\nread\t1\t0\ncopy\t1\t0\t4\ncopy\t1\t4\t0\n\
         copy\t1\t4\t4\ncopy\t1\t0\t0\nread\t4\t0\nread\t5\t9\nunlock\t2\t2\nopen\t1\t2\n\
-        read\t1\t2\nunlock\t1\t1\nopen\t1\t1\nread\t1\t1\n";
+        read\t1\t2\nunlock\t1\t1\nopen\t1\t1\nread\t1\t1\nlock\t1\t0\nlock\t1\t1\nlock\t1\t2\n\
+        read\t1\t2\nwrite\t1\t1\t0\nread\t1\t1\ncopy\t1\t1\t0\ncopy\t1\t1\t0\ncopy\t1\t2\t0\n\
+        read\t1\t0\ncopy\t1\t2\t0\ncopy\t1\t1\t0\nwrite\t1\t0\t7\ncopy\t1\t0\t1\ncopy\t1\t2\t1\n\
+        read\t1\t1\nwrite\t1\t1\t0\nwrite\t1\t1\t0\nwrite\t1\t0\t8\nread\t1\t0\ncopy\t1\t0\t2\n\
+        unlock\t1\t0\nunlock\t1\t1\nunlock\t1\t2\nread\t1\t0\nread\t1\t1\nread\t1\t2\n";
     let mut room = vec![0; LIST_NUMBERS];
     let read = read_with_calls(Rules::UNTURNED, LINES.as_bytes(), &mut room);
     let (setup, count) = read.unwrap_or((Setup::ZERO, 0));

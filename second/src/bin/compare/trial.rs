@@ -12,7 +12,7 @@ use crate::random::Random;
 use crate::reply::{number, GUARD_WORDS, STORE_BYTES, WORD};
 use crate::singles;
 use crate::telling::{tell, tell_grids, tell_setup};
-use second::call::Call;
+use second::call::{Answer, Call};
 use second::rules::{Rules, Turn};
 use second::sizes::{ANSWER_WIDTH, CALL_WIDTH};
 use std::time::{Duration, Instant};
@@ -33,6 +33,9 @@ const SEARCHES: usize = 3_000;
 pub const WRITTEN: &str = "lists that reports wrote";
 pub const SEARCHED: &str = "lists and reports of the search";
 pub const SINGLES: &str = "reports on the pairs of grids";
+
+/// What B's last call answers in a list that a report wrote, with A's calls and without: demand 3.
+const SHOWN: [Answer; 2] = [Answer::Figure(1), Answer::Nothing];
 
 /// What became of a family.
 pub struct Result {
@@ -186,7 +189,8 @@ impl Trial {
         for lists in lists.chunks(BATCH) {
             let found = self.put(WRITTEN, lists);
             for (lists, found) in lists.chunks(2).zip(found.chunks(2)) {
-                let shown = [1, 0] == [0, 1].map(|run| last_figure(&lists[run], &found[run]));
+                let last = [0, 1].map(|run| last_answer(&lists[run], &found[run]));
+                let shown = last == SHOWN.map(|answer| Some(answer.numbers()));
                 self.counts.totals.met(SHOWN_TOTAL, 0);
                 self.unshown += u64::from(!shown);
             }
@@ -257,7 +261,7 @@ impl Trial {
             brute.has_power(),
         ));
         checks.push((
-            format!("written lists: {} do not show figure 1, and 0 without A", self.unshown),
+            format!("written lists: {} do not show figure 1, and nothing without A", self.unshown),
             self.unshown == 0,
         ));
         checks.push((
@@ -296,17 +300,13 @@ fn written(found: &[u8]) -> Vec<Call> {
     numbers.chunks_exact(CALL_WIDTH).map(Call::from_numbers).collect()
 }
 
-/// The figure that the last call of a list answered, by the first program's reply; else a number that none is.
-fn last_figure(case: &Case, found: &Found) -> u32 {
-    const NO_FIGURE: u32 = 9;
+/// What the last call of a list answered, by the first program's reply; nothing at all where there is none.
+fn last_answer(case: &Case, found: &Found) -> Option<[u32; ANSWER_WIDTH]> {
     let (Case::List { calls, .. }, Ok(found)) = (case, found) else {
-        return NO_FIGURE;
+        return None;
     };
     // The answer of the list, the store, the calls between guards, and the answers behind theirs.
     let before = ANSWER_WIDTH + STORE_BYTES / WORD + GUARD_WORDS * 3 + calls.len();
-    let last = before + calls.len() / CALL_WIDTH * ANSWER_WIDTH;
-    match (number(found, last - 2), number(found, last - 1)) {
-        (Some(1), Some(figure)) => figure,
-        _ => NO_FIGURE,
-    }
+    let last = before + (calls.len() / CALL_WIDTH).checked_sub(1)? * ANSWER_WIDTH;
+    Some([number(found, last)?, number(found, last + 1)?])
 }

@@ -31,9 +31,22 @@ returns-3 : tie.Need-returns-3
 unfolding fileFits
 returns-3 c =
     simp (
-      lt-ltb _ _ (c .before .before .before .if1 .left),
-      holds (c .before .before .holder-fits .ensures) (c .before .if2 .left),
-      c .marks-fit .ensures,
+      lt-ltb _ _ (c .before .before .before .before .if1 .left),
+      holds (c .before .before .before .holder-fits .ensures) (c .before .before .if2 .left),
+      fails (c .before .marks-fit .ensures) (c .if3 .taken),
+    )
+
+content-fits-requires : tie.Need-content-fits-requires
+content-fits-requires c κs = search needs
+
+returns-4 : tie.Need-returns-4
+unfolding fileFits
+returns-4 c =
+    simp (
+      lt-ltb _ _ (c .before .before .before .before .before .if1 .left),
+      holds (c .before .before .before .before .holder-fits .ensures) (c .before .before .before .if2 .left),
+      holds (c .before .before .marks-fit .ensures) (c .before .if3 .left),
+      c .content-fits .ensures,
     )
 
 pub file-fits-spec : {M : Type 1} → statement M
@@ -46,4 +59,6 @@ file-fits-spec =
     holder-fits-requires
     returns-2
     marks-fit-requires
-    returns-3)
+    returns-3
+    content-fits-requires
+    returns-4)

@@ -1,4 +1,4 @@
--- `trial::comparing::same_contents` meets its contract. The loop's invariant: the figures at every place passed were the same.
+-- `trial::comparing::same_contents` meets its contract. The loop's invariant: the contents at every place passed were the same.
 -- Assumes nothing.
 use Prim.Native.Nat.{_-_}
 use mathlib.Core.Path.{_≡_}
@@ -6,48 +6,55 @@ use mathlib.Core.Bool.{true}
 use mathlib.Core.Logic.{_↔_}
 use native.Mathlib.Omega.{arith}
 use borrow.Author.Needs.{needs}
-use borrow.Author.Tests.{eq-eqb, ne-eqb}
-use lib.Dec.{eqb}
 use lib.ListN.{length, getD}
 use Rattle.rules.specs.Sizes.{mostFiles, every}
 use Rattle.rules.specs.Stores.{pastContents}
+use Rattle.rules.proofs.Told.{fails, holds}
 use Rattle.rules.proofs.Passed.{Passed, passed-none, passed-more, passed-all, stopped-at}
-use Rattle.trial.proofs.Alike.{told-by, alike-exactly, contents-tell}
+use Rattle.trial.proofs.Alike.{told-by, alike-exactly, sameContent, contents-tell}
 use Rattle.trial.proofs.comparing.same_contents.Statement.{statement}
 use Rattle.trial.proofs.comparing.same_contents.Tie as tie
 
 abbrev Inv-loop : tie.InvT-loop
-Inv-loop a b i₀ i = Passed mostFiles (λ k. eqb (getD a k pastContents .figure) (getD b k pastContents .figure)) i
+Inv-loop a b i₀ i = Passed mostFiles (λ k. sameContent (getD a k pastContents) (getD b k pastContents)) i
 
 abbrev μ-loop : tie.MeasureT-loop
 μ-loop a b i₀ i = mostFiles - i
 
--- the two arrays are the same exactly where the figures are at each place
+abbrev in-loop : tie.After-same-content Inv-loop μ-loop → tie.In-loop Inv-loop μ-loop
+in-loop c = c .before .before .before
+
+-- the two arrays are the same exactly where the contents are at each place
 exactly : (c : tie.Start Inv-loop μ-loop) → let a = c .args .t1 in let b = c .args .t2 in
-    (every mostFiles (λ k. eqb (getD a k pastContents .figure) (getD b k pastContents .figure)) ≡ true) ↔ (a ≡ b)
+    (every mostFiles (λ k. sameContent (getD a k pastContents) (getD b k pastContents)) ≡ true) ↔ (a ≡ b)
 exactly c =
     let k : length (c .args .t1) ≡ mostFiles = search needs in
     let l : length (c .args .t2) ≡ mostFiles = search needs in
-    alike-exactly (λ x y. eqb (x .figure) (y .figure)) contents-tell pastContents mostFiles (c .args .t1) (c .args .t2) k l
+    alike-exactly sameContent contents-tell pastContents mostFiles (c .args .t1) (c .args .t2) k l
 
 loop-holds : tie.Need-loop-holds Inv-loop μ-loop
 loop-holds c = passed-none _ _
 
-mul-if1 : tie.Need-mul-if1 Inv-loop μ-loop
-mul-if1 c = search needs
+mul-same-content : tie.Need-mul-same-content Inv-loop μ-loop
+mul-same-content c = search needs
 
-element-copy-out-if1 : tie.Need-element-copy-out-if1 Inv-loop μ-loop
-element-copy-out-if1 c = search needs
+array-copy-out-same-content : tie.Need-array-copy-out-same-content Inv-loop μ-loop
+array-copy-out-same-content c = search needs
 
-mul-if1-2 : tie.Need-mul-if1-2 Inv-loop μ-loop
-mul-if1-2 c = search needs
+mul-same-content-2 : tie.Need-mul-same-content-2 Inv-loop μ-loop
+mul-same-content-2 c = search needs
 
-element-copy-out-if1-2 : tie.Need-element-copy-out-if1-2 Inv-loop μ-loop
-element-copy-out-if1-2 c = search needs
+array-copy-out-same-content-2 : tie.Need-array-copy-out-same-content-2 Inv-loop μ-loop
+array-copy-out-same-content-2 c = search needs
+
+same-content-requires : tie.Need-same-content-requires Inv-loop μ-loop
+same-content-requires c κs = search needs
 
 returns : tie.Need-returns Inv-loop μ-loop
 returns c =
-    told-by (stopped-at mostFiles _ (c .before .before .loop .i) (c .before .loop-test .taken) (ne-eqb _ _ (c .if1 .taken))) (exactly (c .before .before .before))
+    let inside = in-loop (c .before) in
+    told-by (stopped-at mostFiles _ (inside .before .loop .i) (inside .loop-test .taken) (fails (c .before .same-content .ensures) (c .if1 .taken)))
+    (exactly (inside .before .before))
 
 add-i : tie.Need-add-i Inv-loop μ-loop
 add-i c = omega arith
@@ -56,7 +63,9 @@ loop-less : tie.Need-loop-less Inv-loop μ-loop
 loop-less c = omega arith
 
 loop-again : tie.Need-loop-again Inv-loop μ-loop
-loop-again c = passed-more _ _ _ (c .before .before .loop .inv) (c .before .loop-test .taken) (eq-eqb _ _ (c .if1 .left))
+loop-again c =
+    let inside = in-loop (c .before) in
+    passed-more _ _ _ (inside .before .loop .inv) (inside .loop-test .taken) (holds (c .before .same-content .ensures) (c .if1 .left))
 
 returns-2 : tie.Need-returns-2 Inv-loop μ-loop
 returns-2 c = told-by (passed-all _ _ _ (c .before .loop .inv) (c .loop-test .left)) (exactly (c .before .before))
@@ -68,10 +77,11 @@ same-contents-spec =
     Inv-loop
     μ-loop
     loop-holds
-    mul-if1
-    element-copy-out-if1
-    mul-if1-2
-    element-copy-out-if1-2
+    mul-same-content
+    array-copy-out-same-content
+    mul-same-content-2
+    array-copy-out-same-content-2
+    same-content-requires
     returns
     add-i
     loop-less
