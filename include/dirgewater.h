@@ -170,8 +170,7 @@ typedef struct dw_cell {
 /* A store fits its setup when each locked file is held by an existing process whose desk has W on the
  * file's class, each process that has a file open exists and its desk has R on that class, open marks
  * are 0 or 1, each file's written mark is 0 or 1 and an unwritten file's figure is 0, and all that lies
- * past the files is 0. Every call keeps a store fitting. No byte lies between the fields, so two stores can be
- * compared byte by byte. */
+ * past the files is 0. Every call keeps a store fitting. Two stores can be compared byte by byte. */
 typedef struct dw_store {
     uint32_t holders[DW_FILES];     /* 0 for unlocked, else the process that has the file locked, plus one */
     dw_cell cells[DW_FILES];        /* what each file holds */

@@ -778,6 +778,12 @@ static struct guarded_numbers list, room;
 
 enum { CALLS_LEN = LEN(list.numbers) };
 
+/* One figure in two is 0. */
+static uint32_t any_figure(void)
+{
+    return below(2) ? below(1000) : 0;
+}
+
 /* Any calls: most have numbers that exist, and some have not. */
 static void make_list(void)
 {
@@ -787,7 +793,7 @@ static void make_list(void)
         list.numbers[i] = op;
         list.numbers[i + 1] = below(DW_PROCESSES + 1);
         list.numbers[i + 2] = f;
-        list.numbers[i + 3] = op == DW_WRITE ? below(2) * below(1000) : op == DW_COPY ? below(DW_FILES) : 0;
+        list.numbers[i + 3] = op == DW_WRITE ? any_figure() : op == DW_COPY ? below(DW_FILES) : 0;
     }
 }
 
@@ -876,16 +882,16 @@ static void refused_lists_write_nothing(void)
     dw_store m = opened_store();
 
     make_list();
-    list_is_refused(s, m, TWO_CALLS + 1, CALLS_LEN, 10);
-    list_is_refused(s, m, (DW_CALLS + 1) * DW_CALL_WIDTH, CALLS_LEN, 10);
-    list_is_refused(s, m, TWO_CALLS, TWO_ANSWERS - 1, 11);
+    list_is_refused(s, m, TWO_CALLS + 1, CALLS_LEN, DW_REFUSAL_LENGTH);
+    list_is_refused(s, m, (DW_CALLS + 1) * DW_CALL_WIDTH, CALLS_LEN, DW_REFUSAL_LENGTH);
+    list_is_refused(s, m, TWO_CALLS, TWO_ANSWERS - 1, DW_REFUSAL_ROOM);
     m.cells[3].written = 2;
-    list_is_refused(s, m, TWO_CALLS + 1, 0, 16);
+    list_is_refused(s, m, TWO_CALLS + 1, 0, DW_REFUSAL_STORE);
     m.cells[3] = unwritten_cell;
     m.marks[DW_MARK(3, 5)] = 2;
-    list_is_refused(s, m, TWO_CALLS + 1, 0, 16);
+    list_is_refused(s, m, TWO_CALLS + 1, 0, DW_REFUSAL_STORE);
     s.files = 0;
-    list_is_refused(s, m, TWO_CALLS + 1, 0, 15);
+    list_is_refused(s, m, TWO_CALLS + 1, 0, DW_REFUSAL_SETUP);
 }
 
 /* ---- Lists from a fresh store. */
@@ -932,15 +938,20 @@ static void list_ends_in(const uint32_t *calls, uint32_t len, uint32_t kind, uin
 }
 
 /* Cases 1, 2, 6 and 7 of document 01, which end as 02 has them; then case 7 with a WRITE of 0, which is a figure too.
- * Case 7 begins with case 6. */
+ * Case 7 begins with case 6. First two READs of a written file that do not go through: of an unwritten one they would
+ * answer the same if they did. */
 static void cases_end_as_they_should(void)
 {
     static const uint32_t fresh[] = {DW_OPEN, 1, 0, 0, DW_READ, 1, 0, 0};
     static const uint32_t no_lock[] = {DW_WRITE, 0, 0, 5, DW_OPEN, 1, 0, 0, DW_READ, 1, 0, 0};
     uint32_t read_again[] = {DW_OPEN,  1, 0, 0, DW_LOCK,   0, 0, 0, DW_READ, 1, 0, 0,
                              DW_WRITE, 0, 0, 6, DW_UNLOCK, 0, 0, 0, DW_READ, 1, 0, 0};
+    static const uint32_t locked[] = {DW_OPEN, 1, 0, 0, DW_LOCK, 0, 0, 0, DW_WRITE, 0, 0, 6, DW_READ, 1, 0, 0};
+    static const uint32_t unopened[] = {DW_LOCK, 0, 0, 0, DW_WRITE, 0, 0, 6, DW_UNLOCK, 0, 0, 0, DW_READ, 1, 0, 0};
     enum { CASE_6 = 3 * DW_CALL_WIDTH, WRITTEN = CASE_6 + 3 };
 
+    list_ends_in(locked, LEN(locked), DW_NOTHING, 0);
+    list_ends_in(unopened, LEN(unopened), DW_NOTHING, 0);
     list_ends_in(fresh, LEN(fresh), DW_NOTHING, 0);
     list_ends_in(no_lock, LEN(no_lock), DW_NOTHING, 0);
     list_ends_in(read_again, CASE_6, DW_NOTHING, 0);

@@ -18,6 +18,7 @@ use Rattle.rules.specs.declared.Setup.{Setup}
 use Rattle.rules.specs.declared.Store.{Store}
 use Rattle.rules.specs.declared.Answer.the-variants.{Nothing}
 use Rattle.rules.proofs.Setups.{accepted-sizes}
+use Rattle.rules.proofs.Stores.{fresh-content}
 use Rattle.views.specs.Machine.{machine}
 use Rattle.chains.specs.Chains.{processAt, fileFor, isChain, deskAt, Fewest}
 use Rattle.chains.proofs.Chains.{chain-none, chain-first}
@@ -26,7 +27,7 @@ use Rattle.chains.proofs.Acts.{ActsBy, link-acts, files-used-apart}
 use Rattle.demand.specs.Routes.{onward, routeCalls}
 use Rattle.demand.specs.Heard.{without, Shows}
 use Rattle.demand.proofs.Goes.{open-answers}
-use Rattle.demand.proofs.Stages.{Stage, fresh-stage, fresh-content, content-stage, open-stage, put-content, wrote, handed, read-out}
+use Rattle.demand.proofs.Stages.{Stage, fresh-stage, content-stage, open-stage, put-content, wrote, handed, read-out}
 
 module _ (s : Setup) where
   -- a call of the process by which desk d acts is d's, and no other desk's

@@ -5,17 +5,18 @@ use mathlib.Core.Path.{_≡_, ap, sym, _∙_}
 use mathlib.Core.Bool.{true, and-eq-true-iff}
 use mathlib.Core.Logic.{_≢_}
 use native.Mathlib.Omega.{arith}
-use lib.ListN.{length, set, length-set, length-replicate, getD-replicate}
+use lib.ListN.{length, set, length-set, length-replicate}
 use lib.Seq.{set-getD, set-set, getD-set-same, getD-set-other}
 use Rattle.rules.specs.Sizes.{mostFiles, mostMarks}
 use Rattle.rules.specs.Setups.{hasR, hasW, classOf, rightOf, mayRead, mayWrite, accepted}
-use Rattle.rules.specs.Stores.{Content, blankContent, pastContents, holderOf, contentOf, markAt, markOf, putHolder, putContent, putMark, freshStore}
+use Rattle.rules.specs.Stores.{Content, holderOf, contentOf, markAt, markOf, putHolder, putContent, putMark, freshStore}
 use Rattle.rules.specs.Calls.{readOf, writtenTo, copiedTo}
 use Rattle.rules.specs.Entries.{ran}
 use Rattle.rules.specs.declared.Setup.{Setup}
 use Rattle.rules.specs.declared.Store.{Store}
 use Rattle.rules.proofs.Lists.{getD-alike}
 use Rattle.rules.proofs.Setups.{accepted-sizes}
+use Rattle.rules.proofs.Stores.{putContent-length, putContent-found, fresh-length}
 use Rattle.chains.specs.Chains.{processAt, fileFor}
 use Rattle.chains.proofs.Acts.{LinkActs}
 use Rattle.demand.specs.Routes.{readCall, writeCall, lockCall, unlockCall, openCall, copyCall}
@@ -34,19 +35,15 @@ fresh-stage =
     record {
       free = λ f. getD-alike mostFiles f 0;
       holders = length-replicate {A = ℕ} mostFiles 0;
-      cells = length-replicate mostFiles blankContent;
+      cells = fresh-length;
       marks = length-replicate {A = ℕ} mostMarks 0;
     }
-
-pub fresh-content : (f : ℕ) → f < mostFiles → contentOf freshStore f ≡ blankContent
-unfolding freshStore
-fresh-content f h = getD-replicate mostFiles f blankContent pastContents h
 
 module _ {m : Store} (at : Stage m) where
   -- another content and one more open mark leave every file unlocked
   pub content-stage : (f : ℕ) (content : Content) → Stage (putContent m f content)
   content-stage f content =
-      record { free = at .free; holders = at .holders; cells = length-set (m .cells) f content ∙ at .cells; marks = at .marks }
+      record { free = at .free; holders = at .holders; cells = putContent-length m f content ∙ at .cells; marks = at .marks }
 
   pub open-stage : (f p : ℕ) → Stage (putMark m f p 1)
   open-stage f p =
@@ -74,7 +71,7 @@ module _ (s : Setup) (e : accepted s ≡ true) {m : Store} (at : Stage m) where
   put-holder f holder h = getD-set-same (m .holders) f holder 0 (omega (arith, accepted-sizes s e .of-files .high, at .holders))
 
   pub put-content : (f : ℕ) (content : Content) → f < s .files → contentOf (putContent m f content) f ≡ content
-  put-content f content h = getD-set-same (m .cells) f content pastContents (omega (arith, accepted-sizes s e .of-files .high, at .cells))
+  put-content f content h = putContent-found m f content (at .cells) (omega (arith, accepted-sizes s e .of-files .high))
 
   put-open : (f p : ℕ) → f < s .files → p < s .processes → markOf (putMark m f p 1) f p ≡ 1
   put-open f p h k =

@@ -1,15 +1,15 @@
--- Laws of the eight calls: what each leaves alone, what OPEN and TESTLOCK need, and that a call on what exists keeps a store fitting.
+-- Laws of the eight calls: what each leaves alone, what READ, OPEN and TESTLOCK need, and that a call on what exists keeps a store fitting.
 -- Assumes nothing.
 use Prim.Native.Nat.{ℕ, _+_, _-_, _<_}
 use mathlib.Core.Path.{_≡_, refl}
-use mathlib.Core.Bool.{Bool, true, false, and-eq-true-iff, and-false, or-true, false≢true}
+use mathlib.Core.Bool.{Bool, true, false, _&&_, and-eq-true-iff, and-false, or-true, false≢true}
 use mathlib.Core.Logic.{_≢_}
 use native.Mathlib.Omega.{arith}
 use borrow.Author.Tests.{eqb-true, lt-ltb, ne-eqb}
 use lib.Seq.{set-set}
 use Rattle.rules.specs.Sizes.{mostProcesses, mostFiles}
 use Rattle.rules.specs.Setups.{mayRead, mayWrite, accepted}
-use Rattle.rules.specs.Stores.{unlocked, lockedBy, holderOf, putMark, holderFits, markFits, fits}
+use Rattle.rules.specs.Stores.{unlocked, lockedBy, holderOf, hasOpen, putMark, holderFits, markFits, fits}
 use Rattle.rules.specs.Calls.{goesThrough, effect, says, answerTo, nextStore}
 use Rattle.rules.specs.Parts.{processOf, fileOf, changeable}
 use Rattle.rules.specs.declared.Setup.{Setup}
@@ -133,6 +133,16 @@ open-twice s m p f =
   where
     opened : Store
     opened = putMark m f p 1
+
+-- READ does not go through where p has the file not open
+pub read-unopened : (s : Setup) (m : Store) (p f : ℕ) → hasOpen m p f ≡ false → goesThrough s m (Read p f) ≡ false
+unfolding goesThrough
+read-unopened s m p f e = rw (e, and-false (mayRead s p f))
+
+-- nor while another process has it locked: "READ waits for the lock instead"
+pub read-waits : (s : Setup) (m : Store) (p f : ℕ) → unlocked (holderOf m f) ≡ false → lockedBy (holderOf m f) p ≡ false → goesThrough s m (Read p f) ≡ false
+unfolding goesThrough
+read-waits s m p f held others = rw (held, others) (and-false (mayRead s p f && hasOpen m p f))
 
 -- "OPEN of a file that p itself has locked does not go through"
 pub open-own-locked : (s : Setup) (m : Store) (p f : ℕ) → lockedBy (holderOf m f) p ≡ true → goesThrough s m (Open p f) ≡ false

@@ -1,16 +1,14 @@
 -- Laws of what a file holds: which contents are blank and which fit, that READ of an unwritten file answers nothing, how what WRITE and COPY
--- put there is read, and that a fresh store's files are unwritten.
+-- put there is read.
 -- Assumes nothing.
-use Prim.Native.Nat.{ℕ, _<_, _≤_}
+use Prim.Native.Nat.{ℕ, _≤_}
 use mathlib.Core.Path.{_≡_, refl}
 use mathlib.Core.Bool.{true, false, and-eq-true-iff}
 use mathlib.Core.Logic.{_↔_}
 use native.Mathlib.Omega.{arith}
 use borrow.Author.Tests.{eqb-true, eqb-false, eq-eqb}
 use lib.Dec.{eqb}
-use lib.ListN.{getD-replicate}
-use Rattle.rules.specs.Sizes.{mostFiles}
-use Rattle.rules.specs.Stores.{Content, isWritten, blankContent, isBlank, pastContents, contentOf, freshStore, contentFits}
+use Rattle.rules.specs.Stores.{Content, isWritten, blankContent, isBlank, contentOf, contentFits}
 use Rattle.rules.specs.Calls.{readOf, writtenTo, copiedTo, goesThrough, says, answerTo}
 use Rattle.rules.specs.declared.Setup.{Setup}
 use Rattle.rules.specs.declared.Store.{Store}
@@ -30,7 +28,7 @@ isBlank-iff content = (
   λ e. rw e,
 )
 
--- as decided, a mark "that is neither 0 nor 1 in a store does not fit"; and "an unwritten file's figure is 0"
+-- as decided for all requests, a mark "that is neither 0 nor 1 in a store does not fit"; and "an unwritten file's figure is 0"
 pub contentFits-iff : (content : Content) → (contentFits content ≡ true) ↔ ((content .written ≤ 1) × (content .written ≡ 0 → content .figure ≡ 0))
 contentFits-iff content = (
   λ e.
@@ -60,8 +58,3 @@ write-reads content x = refl
 -- what was copied is read as its source is: a figure, or nothing
 pub copy-reads : (content source : Content) → readOf (copiedTo content source) ≡ readOf source
 copy-reads content source = refl
-
--- all files of a fresh store are unwritten
-pub fresh-unwritten : (f : ℕ) → f < mostFiles → isWritten (contentOf freshStore f) ≡ false
-unfolding freshStore
-fresh-unwritten f l = rw (getD-replicate mostFiles f blankContent pastContents l)

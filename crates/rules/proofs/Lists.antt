@@ -7,6 +7,7 @@ use mathlib.Core.Logic.{_↔_}
 use mathlib.Core.List.{List, [], _∷_, foldl}
 use mathlib.Core.Option.{some}
 use native.Mathlib.Nat.{not-suc-le-zero, le-of-suc-le-suc}
+use native.Mathlib.Omega.{arith}
 use lib.ListN.{length, getD, getElem?, set, replicate}
 use Rattle.rules.specs.Setups.{allOf}
 
@@ -55,6 +56,17 @@ set-holds P (x ∷ l) zero zero a d p h = h refl
 set-holds P (x ∷ l) zero (suc j) a d p h = p
 set-holds P (x ∷ l) (suc i) zero a d p h = p
 set-holds P (x ∷ l) (suc i) (suc j) a d p h = set-holds P l i j a d p (λ e. h (ap suc e))
+
+-- two lists of one length that agree at f still do when both are set at g, if what they are set to agrees where f is g
+pub both-set : {A : Type 0} (xs ys : List A) (g f : ℕ) {a b : A} (d : A) → length xs ≡ length ys →
+    getD xs f d ≡ getD ys f d → (f ≡ g → a ≡ b) → getD (set xs g a) f d ≡ getD (set ys g b) f d
+both-set [] [] g f d e old new = old
+both-set [] (y ∷ ys) g f d e old new = absurd (omega arith)
+both-set (x ∷ xs) [] g f d e old new = absurd (omega arith)
+both-set (x ∷ xs) (y ∷ ys) zero zero d e old new = new refl
+both-set (x ∷ xs) (y ∷ ys) zero (suc f) d e old new = old
+both-set (x ∷ xs) (y ∷ ys) (suc g) zero d e old new = old
+both-set (x ∷ xs) (y ∷ ys) (suc g) (suc f) d e old new = both-set xs ys g f d (omega arith) old (λ q. new (rw q))
 
 -- a list of one entry only has it at every place, and past its end where it stands in for what is missing
 pub getD-alike {ℓ} : {A : Type ℓ} (n i : ℕ) (a : A) → getD (replicate n a) i a ≡ a

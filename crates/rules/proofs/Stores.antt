@@ -8,14 +8,14 @@ use mathlib.Core.Logic.{_↔_, _≢_}
 use native.Mathlib.Omega.{arith}
 use borrow.Author.Tests.{ltb-true, ltb-false, lt-ltb, le-ltb}
 use lib.Dec.{ltb, eqb}
-use lib.ListN.{getD-replicate}
-use lib.Seq.{set-getD, getD-set-other}
+use lib.ListN.{length, length-set, length-replicate, getD-replicate}
+use lib.Seq.{set-getD, getD-set-same, getD-set-other}
 use Rattle.rules.specs.Sizes.{mostProcesses, mostFiles, mostMarks, every}
 use Rattle.rules.specs.Stores.{Content, unlocked, isBlank, blankContent, pastContents, holderOf, contentOf, markAt, markOf, putHolder, putContent, putMark}
 use Rattle.rules.specs.Stores.{freshStore, holderFits, markFits, marksFit, contentFits, fileIsBlank, fileFits, fits, misfit}
 use Rattle.rules.specs.declared.Setup.{Setup}
 use Rattle.rules.specs.declared.Store.{Store}
-use Rattle.rules.proofs.Lists.{cond-holds, set-holds, getD-alike}
+use Rattle.rules.proofs.Lists.{cond-holds, set-holds, both-set, getD-alike}
 use Rattle.rules.proofs.Sizes.{every-at, every-true, every-false}
 
 -- a mark has a place of its own
@@ -170,6 +170,28 @@ module _ (m : Store) (f : ℕ) where
 
   pub putMark-own : (p : ℕ) → putMark m f p (markOf m f p) ≡ m
   putMark-own p = rw set-getD
+
+-- contents as they are put and found: laws above cite these, and do not look how contents lie in a store
+module _ (m : Store) (g : ℕ) where
+  pub putContent-length : (content : Content) → length (putContent m g content .cells) ≡ length (m .cells)
+  putContent-length content = length-set (m .cells) g content
+
+  pub putContent-found : (content : Content) → length (m .cells) ≡ mostFiles → g < mostFiles → contentOf (putContent m g content) g ≡ content
+  putContent-found content long h = getD-set-same (m .cells) g content pastContents (omega arith)
+
+-- two stores that hold the same in file f still do with contents put in file g, if those are the same where f is g
+pub putContent-both : (m k : Store) (g f : ℕ) {a b : Content} → length (m .cells) ≡ length (k .cells) → contentOf m f ≡ contentOf k f
+    → (f ≡ g → a ≡ b) → contentOf (putContent m g a) f ≡ contentOf (putContent k g b) f
+putContent-both m k g f = both-set (m .cells) (k .cells) g f pastContents
+
+-- every file of a fresh store is blank
+pub fresh-length : length (freshStore .cells) ≡ mostFiles
+unfolding freshStore
+fresh-length = length-replicate mostFiles blankContent
+
+pub fresh-content : (f : ℕ) → f < mostFiles → contentOf freshStore f ≡ blankContent
+unfolding freshStore
+fresh-content f l = getD-replicate mostFiles f blankContent pastContents l
 
 -- file g stands as it stood, whoever looks
 pub record Kept (g : ℕ) (m k : Store) : Type 0 where

@@ -38,7 +38,7 @@ lockedBy holder p = eqb holder (p + 1)
 abbrev pub isOpen : ℕ → Bool
 isOpen mark = eqb mark 1
 
--- "A store holds, for each file, who has it locked, who has it open, and one figure", and here its written mark
+-- "A store holds, for each file, who has it locked, who has it open, and one figure"; with Req 02 its written mark too
 abbrev pub holderOf : Store → ℕ → ℕ
 holderOf m f = getD (m .holders) f 0
 
@@ -87,7 +87,7 @@ markFits s f p mark = eqb mark 0 || eqb mark 1 && ltb p (s .processes) && mayRea
 unfoldable pub marksFit : Setup → ℕ → (ℕ → ℕ) → Bool
 marksFit s f marks = every mostProcesses (λ p. markFits s f p (marks p))
 
--- as decided, a mark "that is neither 0 nor 1 in a store does not fit"; and "an unwritten file's figure is 0"
+-- as decided for all requests, a mark "that is neither 0 nor 1 in a store does not fit"; and "an unwritten file's figure is 0"
 abbrev pub contentFits : Content → Bool
 contentFits content = isWritten content || isBlank content
 

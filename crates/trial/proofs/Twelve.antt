@@ -91,7 +91,7 @@ on-q list expected w e = answers q freshStore q-accepted (freshStore-fits q) lis
 on-eight : (list expected : List ℕ) → Whole list → Comes eight freshStore list expected → Answers eight freshStore list expected
 on-eight list expected w e = answers eight freshStore eight-accepted (freshStore-fits eight) list w expected e
 
--- the empty list on the store of case 12
+-- a list of calls on the store of case 12
 on-used : (list expected : List ℕ) → Whole list → Comes q inUse list expected → Answers q inUse list expected
 on-used list expected w e = answers q inUse q-accepted in-use-fits list w expected e
 
@@ -110,7 +110,7 @@ all-come-out =
     on-q _ _ refl refl then on-q _ _ refl refl then on-q _ _ refl refl then on-q _ _ refl refl then on-q _ _ refl refl
     then on-q _ _ refl refl then on-q _ _ refl refl then on-q _ _ refl refl then on-eight _ _ refl refl
     then on-eight _ _ refl refl then (refl, refl) then (refl, refl) then on-q _ _ refl refl then on-q _ _ refl refl then (refl, refl)
-    then (refl, refl) then (refl, refl) then (refl, refl) then (on-used _ _ refl refl, in-use-stays) then tt
+    then (refl, refl) then (refl, refl) then (refl, refl) then (on-used _ _ refl refl, in-use-stays) then on-used _ _ refl refl then tt
 
 -- so each does, by its place in the table
 at-place : (table : List Case) → EachComesOut table → (k : ℕ) → k < length table → ComesOut (getD table k case1)

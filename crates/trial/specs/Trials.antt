@@ -7,7 +7,7 @@ use lib.ListN.{length, drop, replicate}
 use Rattle.rules.specs.Sizes.{mostNumber}
 use Rattle.rules.specs.Setups.{SetupBytes, setupBytes}
 use Rattle.rules.specs.Stores.{blankContent, putHolder, putContent, putMark, freshStore}
-use Rattle.rules.specs.Calls.{numbers, writtenTo, codeOfTestlock, callsIn, inQuads}
+use Rattle.rules.specs.Calls.{numbers, writtenTo, codeOfClose, codeOfTestlock, callsIn, inQuads}
 use Rattle.rules.specs.Entries.{acceptance}
 use Rattle.rules.specs.declared.Numbers.{Numbers}
 use Rattle.rules.specs.declared.Setup.{Setup}
@@ -27,6 +27,9 @@ setupQ = setupBytes 3 2 3 2 (2 ∷ 0 ∷ 1 ∷ 2 ∷ 0 ∷ 1 ∷ []) (0 ∷ 1 �
 -- a store of Q that is not fresh: file 0 is written and holds 5, process 0 has it locked, process 1 has it open
 unfoldable pub inUse : Store
 inUse = putMark (putHolder (putContent freshStore 0 (writtenTo blankContent 5)) 0 (0 + 1)) 0 1 1
+
+abbrev pub closeCall : ℕ → ℕ → Numbers
+closeCall p f = numbers codeOfClose p f 0
 
 abbrev pub testlockCall : ℕ → ℕ → Numbers
 testlockCall p f = numbers codeOfTestlock p f 0
@@ -136,6 +139,12 @@ case11b = route setupQ 0 2 243 (4, 11) []
 abbrev pub case12 : Case
 case12 = calls setupQ inUse [] [] (some inUse)
 
+-- beside 4 and 6, on a written file: of an unwritten one READ answers "nothing" whatever its lock and its open mark are
+abbrev pub caseWritten : Case
+caseWritten =
+    calls setupQ inUse (readCall 1 0 ∷ unlockCall 0 0 ∷ readCall 1 0 ∷ closeCall 1 0 ∷ readCall 1 0 ∷ [])
+    ((0, 0) ∷ (0, 0) ∷ (1, 5) ∷ (0, 0) ∷ (0, 0) ∷ []) none
+
 -- answers as numbers, two each
 unfoldable pub inPairs : List (ℕ × ℕ) → List ℕ
 inPairs [] = []
@@ -186,4 +195,4 @@ EachComesOut (c ∷ rest) = ComesOut c × EachComesOut rest
 abbrev pub twelve : List Case
 twelve =
     case1 ∷ case2 ∷ case3 ∷ case4a ∷ case4b ∷ case5 ∷ case6 ∷ case7 ∷ case8a ∷ case8b ∷ case8c ∷ case9a ∷ case9b ∷ case9c
-    ∷ case10a ∷ case10b ∷ case11a ∷ case11b ∷ case12 ∷ []
+    ∷ case10a ∷ case10b ∷ case11a ∷ case11b ∷ case12 ∷ caseWritten ∷ []

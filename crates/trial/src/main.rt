@@ -192,12 +192,19 @@ fn in_use(q: Setup, fresh: Store) -> Store
     listed.store
 }
 
-// No answers, and the same store.
-fn case_12(q: Setup, used: Store)
+fn cases_in_use(q: Setup, used: Store)
     requires { ⌜ (q ≡ acceptance setupQ .setup) × (used ≡ inUse) ⌝ }
 {
+    // 12: no answers, and the same store.
     expect(answers(q, used, &[], &[]));
     expect(leaves(q, used, &[], used));
+    // READ of a written file: nothing while another has it locked, figure 5, and nothing once it is closed.
+    expect(answers(
+        q,
+        used,
+        &[1, 1, 0, 0, 4, 0, 0, 0, 1, 1, 0, 0, 6, 1, 0, 0, 1, 1, 0, 0],
+        &[0, 0, 0, 0, 1, 5, 0, 0, 0, 0],
+    ));
 }
 
 fn fresh_store(setup: Setup) -> Store
@@ -231,7 +238,7 @@ fn main() {
     cases_1_to_7(q, fresh);
     case_9(q, fresh);
     cases_10_and_11(q);
-    case_12(q, in_use(q, fresh));
+    cases_in_use(q, in_use(q, fresh));
     let eight = setup_8();
     case_8(eight, fresh_store(eight));
 }

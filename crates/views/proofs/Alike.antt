@@ -6,12 +6,12 @@ use mathlib.Core.Path.{_≡_, refl, sym, _∙_}
 use lib.ListN.{length-set}
 use Rattle.secrecy.specs.Views.{Equivalence}
 use Rattle.rules.specs.Sizes.{mostProcesses}
-use Rattle.rules.specs.Stores.{Content, pastContents, holderOf, contentOf, markAt, markOf, putHolder, putContent, putMark}
+use Rattle.rules.specs.Stores.{Content, holderOf, contentOf, markAt, markOf, putHolder, putContent, putMark}
 use Rattle.rules.specs.declared.Setup.{Setup}
 use Rattle.rules.specs.declared.Store.{Store}
-use Rattle.rules.proofs.Stores.{markAt-apart, putHolder-own, putContent-own, putMark-own}
+use Rattle.rules.proofs.Lists.{both-set}
+use Rattle.rules.proofs.Stores.{markAt-apart, putHolder-own, putContent-own, putMark-own, putContent-length, putContent-both}
 use Rattle.views.specs.Views.{Sees, SameOf, Alike}
-use Rattle.views.proofs.Tests.{both-set}
 
 same-of : {q f : ℕ} {m : Store} → SameOf q f m m
 same-of = record { holder = refl; content = refl; mark = refl }
@@ -47,11 +47,11 @@ module _ (s : Setup) (u : ℕ) where
     pub contents-alike : {a b : Content} → ((q : ℕ) → Sees s u q g → a ≡ b) → Alike s u (putContent m g a) (putContent k g b)
     contents-alike new =
         record {
-          lengths = simp length-set (alike .lengths);
+          lengths = simp putContent-length (alike .lengths);
           meets =
               λ q f o.
               let old = alike .meets q f o in
-              let now = both-set (m .cells) (k .cells) g f pastContents (λ j. alike .lengths j .1) (old .content) (λ e. new q (rw e at o)) in
+              let now = putContent-both m k g f (λ j. alike .lengths j .1) (old .content) (λ e. new q (rw e at o)) in
               record { holder = old .holder; content = now; mark = old .mark };
         }
 

@@ -23,8 +23,8 @@ cases-10-and-11-requires c κs = search needs
 in-use-requires : tie.Need-in-use-requires
 in-use-requires c κs = search needs
 
-case-12-requires : tie.Need-case-12-requires
-case-12-requires c κs = search needs
+cases-in-use-requires : tie.Need-cases-in-use-requires
+cases-in-use-requires c κs = search needs
 
 setup-8-requires : tie.Need-setup-8-requires
 setup-8-requires c κs = search needs
@@ -48,7 +48,7 @@ main-spec =
     case-9-requires
     cases-10-and-11-requires
     in-use-requires
-    case-12-requires
+    cases-in-use-requires
     setup-8-requires
     fresh-store-requires-2
     case-8-requires

@@ -30,10 +30,12 @@ marks-fit-requires c κs = search needs
 returns-3 : tie.Need-returns-3
 unfolding fileFits
 returns-3 c =
+    let at-marks = c .before in
+    let at-holder = at-marks .before .before in
     simp (
-      lt-ltb _ _ (c .before .before .before .before .if1 .left),
-      holds (c .before .before .before .holder-fits .ensures) (c .before .before .if2 .left),
-      fails (c .before .marks-fit .ensures) (c .if3 .taken),
+      lt-ltb _ _ (at-holder .before .if1 .left),
+      holds (at-holder .holder-fits .ensures) (at-marks .before .if2 .left),
+      fails (at-marks .marks-fit .ensures) (c .if3 .taken),
     )
 
 content-fits-requires : tie.Need-content-fits-requires
@@ -42,10 +44,12 @@ content-fits-requires c κs = search needs
 returns-4 : tie.Need-returns-4
 unfolding fileFits
 returns-4 c =
+    let at-marks = c .before .before in
+    let at-holder = at-marks .before .before in
     simp (
-      lt-ltb _ _ (c .before .before .before .before .before .if1 .left),
-      holds (c .before .before .before .before .holder-fits .ensures) (c .before .before .before .if2 .left),
-      holds (c .before .before .marks-fit .ensures) (c .before .if3 .left),
+      lt-ltb _ _ (at-holder .before .if1 .left),
+      holds (at-holder .holder-fits .ensures) (at-marks .before .if2 .left),
+      holds (at-marks .marks-fit .ensures) (c .before .if3 .left),
       c .content-fits .ensures,
     )
 
