@@ -142,9 +142,9 @@ pub fn has_unsound_cell(store: &Store) -> bool {
 
 /// The slices of a setup's bytes that do not match its counts.
 pub fn of_slices(given: &SetupBytes) -> Vec<&'static str> {
-    let cells = u64::from(given.desks) * u64::from(given.classes);
+    let rights = u64::from(given.desks) * u64::from(given.classes);
     let lengths = [
-        (given.rights.len() as u64, cells),
+        (given.rights.len() as u64, rights),
         (given.desk_of.len() as u64, u64::from(given.processes)),
         (given.class_of.len() as u64, u64::from(given.files)),
     ];
