@@ -351,6 +351,13 @@ static void make_full(dw_setup *s)
     memset(s->rights, DW_RW, sizeof s->rights);
 }
 
+/* The line with the lowest process of each desk but the last as far back as can be: those before all sit at the last. */
+static void make_late(dw_setup *s)
+{
+    make_line(s);
+    memset(s->desk_of, DW_DESKS - 1, DW_PROCESSES - DW_DESKS);
+}
+
 static void make_bare(dw_setup *s)
 {
     make_line(s);
@@ -746,6 +753,7 @@ int main(void)
 #endif
     measure("    calls by dw_call, by value", value_calls, peer_calls);
     measure_route("route, 16 desks in a line", make_line, 0, DW_DESKS - 1);
+    measure_route("the same, lowest processes last", make_late, 0, DW_DESKS - 1);
     measure_route("no route, back along the line", make_line, DW_DESKS - 1, 0);
     measure_route("route, all rights set", make_full, 0, DW_DESKS - 1);
     measure_route("route at once, beside a line", make_shortcut, 0, DW_DESKS - 1);

@@ -3,42 +3,31 @@ use judging::rights::entry_at;
 use judging::rights::has_r;
 use judging::rights::has_w;
 use rules::CLASSES;
-use rules::DESKS;
 use rules::Setup;
 ghost use mathlib.Core.Path.{_≡_};
 ghost use mathlib.Core.Bool.{true, _&&_};
 ghost use Prim.Native.Nat.{_+_, _*_, _<_};
 ghost use lib.ListN.{getD};
-ghost use Rattle.rules.specs.Sizes.{mostDesks, mostClasses, table};
+ghost use Rattle.rules.specs.Sizes.{mostDesks, mostClasses};
 ghost use Rattle.rules.specs.Setups.{hasR, hasW, accepted};
 ghost use Rattle.chains.specs.Chains.{processAt, fileFor};
 
-// The first process of each desk, by desk, and the number of processes where a desk has none.
-fn firsts(setup: Setup) -> [u8; DESKS]
-    requires { ⌜ accepted setup ≡ true ⌝ }
-    ensures { λ r. ⌜ r ≡ table mostDesks (processAt setup) ⌝ }
-{
-    let none = setup.processes as u8;
-    let mut firsts = [none; DESKS];
-    let mut p: u8 = 0;
-    while p < none {
-        let d = setup.desk[p as usize] as usize;
-        // Only the first process of a desk finds none there.
-        if firsts[d] == none {
-            firsts[d] = p;
-        }
-        p += 1;
-    }
-    firsts
-}
-
-// The finder of a desk's lowest process: it fills a table of firsts, and looks into it.
+// The lowest process that sits at desk d, below the number of processes, and that number where none does.
 pub fn lowest_process(setup: Setup, d: usize) -> usize
     requires { ⌜ (accepted setup ≡ true) × (d < mostDesks) ⌝ }
     ensures { λ r. ⌜ r ≡ processAt setup d ⌝ }
 {
-    let firsts = firsts(setup);
-    firsts[d] as usize
+    let processes = setup.processes as usize;
+    let mut p = 0;
+    loop {
+        if processes <= p {
+            break processes;
+        }
+        if setup.desk[p] as usize == d {
+            break p;
+        }
+        p += 1;
+    }
 }
 
 // Desk d writes and desk e reads the class of file f. The two tables are lent, so that none is copied for a look.
