@@ -351,7 +351,7 @@ static void make_full(dw_setup *s)
     memset(s->rights, DW_RW, sizeof s->rights);
 }
 
-/* The line with the lowest process of each desk but the last as far back as can be: those before all sit at the last. */
+/* The line, with the lowest process of each desk but the last as far back as can be: all before sit at the last desk. */
 static void make_late(dw_setup *s)
 {
     make_line(s);

@@ -1,4 +1,4 @@
--- The laws that the functions' proofs share: of the lowest that a loop finds, and links.
+-- The laws that the functions' proofs share: of the lowest that a loop finds, of links and their table, of marks, and of reach.
 pub mod Searched
 pub mod Linked
 pub mod Marked
