@@ -2,8 +2,8 @@
  *
  * A list of 1,024 mixed calls, of which most go through, is run from a fresh store by each form that the library has. Every
  * run is timed by itself, library and peer by turns, and the medians are compared. Then the stack that one call takes is
- * measured. Routes, a text and grids follow, and stores of any kind, which are compared and not timed. Its exit status is 1
- * where an answer, a store or a lent room differs. */
+ * measured. Routes, gates, a text and grids follow, and stores and gates of any kind, which are compared and not timed. Its
+ * exit status is 1 where an answer, a store or a lent room differs. */
 #include <stdio.h>
 #include <stdlib.h>
 #include <string.h>
@@ -314,7 +314,13 @@ static void measure(const char *name, form *ours, form *peers)
 
 /* ---- Routes, on setups that cost much: as many desks, processes and files as can be. */
 
-enum { REPORTS = 20 };
+enum { REPORTS = 20, NO_GATE = DW_DESKS + 1 };
+
+/* Whether there is a route from desk a to desk b, or, with a gate desk, whether that guards them. */
+struct question {
+    dw_setup s;
+    uint32_t a, b, gate;
+};
 
 /* Desk d writes class d, and reads the class before its own: a chain through all desks. The files of each class lie last
  * first, so that most are looked at. */
@@ -364,36 +370,53 @@ static void make_bare(dw_setup *s)
     memset(s->rights, DW_NONE, sizeof s->rights);
 }
 
-static double route_time(const dw_setup *s, uint32_t a, uint32_t b, int ours, uint32_t *room, dw_answer *answer)
+static dw_answer ask(const struct question *q, int ours, uint32_t *room, size_t room_len)
+{
+    if (q->gate == NO_GATE)
+        return ours ? dw_route(q->s, q->a, q->b, room, room_len) : peer_route(&q->s, q->a, q->b, room, room_len);
+    return ours ? dw_gate(q->s, q->a, q->b, q->gate, room, room_len)
+                : peer_gate(&q->s, q->a, q->b, q->gate, room, room_len);
+}
+
+static double report_time(const struct question *q, int ours, uint32_t *room, dw_answer *answer)
 {
     double began = now();
 
     for (int i = 0; i < REPORTS; i++)
-        *answer = ours ? dw_route(*s, a, b, room, DW_ROUTE_NUMBERS) : peer_route(s, a, b, room, DW_ROUTE_NUMBERS);
+        *answer = ask(q, ours, room, DW_ROUTE_NUMBERS);
     return (now() - began) / REPORTS;
 }
 
-static void measure_route(const char *name, void make(dw_setup *), uint32_t a, uint32_t b)
+static void measure_report(const char *name, void make(dw_setup *), uint32_t a, uint32_t b, uint32_t gate)
 {
     static double our_times[RUNS], peer_times[RUNS];
     static uint32_t our_room[DW_ROUTE_NUMBERS], peer_room[DW_ROUTE_NUMBERS];
+    struct question q = {.a = a, .b = b, .gate = gate};
     double our_time, peer_time;
     dw_answer our, peer;
-    dw_setup s;
 
-    make(&s);
+    make(&q.s);
     memset(our_room, 0xFF, sizeof our_room);
     memset(peer_room, 0xFF, sizeof peer_room);
     for (int i = 0; i < RUNS; i++) {
-        our_times[i] = route_time(&s, a, b, 1, our_room, &our);
-        peer_times[i] = route_time(&s, a, b, 0, peer_room, &peer);
+        our_times[i] = report_time(&q, 1, our_room, &our);
+        peer_times[i] = report_time(&q, 0, peer_room, &peer);
         differs |= our.kind != peer.kind || our.value != peer.value;
         differs |= memcmp(our_room, peer_room, sizeof our_room) != 0;
     }
     our_time = median(our_times);
     peer_time = median(peer_times);
     printf("%-32s %10.1f %10.1f %8.2f %9u calls\n", name, our_time, peer_time, our_time / peer_time,
-           our.kind == DW_ROUTE ? our.value : 0);
+           our.kind == DW_REFUSED ? 0 : our.value);
+}
+
+static void measure_routes(void)
+{
+    measure_report("route, 16 desks in a line", make_line, 0, DW_DESKS - 1, NO_GATE);
+    measure_report("the same, lowest processes last", make_late, 0, DW_DESKS - 1, NO_GATE);
+    measure_report("no route, back along the line", make_line, DW_DESKS - 1, 0, NO_GATE);
+    measure_report("route, all rights set", make_full, 0, DW_DESKS - 1, NO_GATE);
+    measure_report("route at once, beside a line", make_shortcut, 0, DW_DESKS - 1, NO_GATE);
 }
 
 /* ---- Grids, on the largest setups, by the library, by the peer, and by a report for each two desks, all by turns. */
@@ -515,6 +538,106 @@ static void measure_grids(void)
     measure_grid("grid, all rights set", make_full);
     measure_grid("grid, no rights", make_bare);
     compare_any_grids();
+}
+
+/* ---- Gates, on the routes' setups and two more; then on others, which are compared and not timed. */
+
+enum { ANY_GATES = 4000, MIDDLE = DW_DESKS / 2, RIGHTS_BENT = 16 };
+
+/* The line without its last desk, which has every right: over that desk two links would do. */
+static void make_around(dw_setup *s)
+{
+    make_line(s);
+    memset(s->rights + (DW_DESKS - 1) * DW_CLASSES, DW_RW, DW_CLASSES);
+}
+
+/* The desks before the middle one have every right on one half of the classes, those after it on the other half, and it
+ * alone has rights on both. */
+static void make_halves(dw_setup *s)
+{
+    enum { HALF = DW_CLASSES / 2 };
+
+    make_bare(s);
+    for (uint32_t d = 0; d < DW_DESKS; d++) {
+        memset(s->rights + d * DW_CLASSES, d <= MIDDLE ? DW_RW : DW_NONE, HALF);
+        memset(s->rights + d * DW_CLASSES + HALF, d >= MIDDLE ? DW_RW : DW_NONE, HALF);
+    }
+}
+
+/* The search ends soonest where the gate stands beside the last desk, latest where it stands beside the first. */
+static void measure_gates(void)
+{
+    measure_report("guarded, beside the first desk", make_line, 0, DW_DESKS - 1, 1);
+    measure_report("guarded, midway along the line", make_line, 0, DW_DESKS - 1, MIDDLE);
+    measure_report("guarded, beside the last desk", make_line, 0, DW_DESKS - 1, DW_DESKS - 2);
+    measure_report("guarded, back along the line", make_line, DW_DESKS - 1, 0, MIDDLE);
+    measure_report("guarded, between two halves", make_halves, 0, DW_DESKS - 1, MIDDLE);
+    measure_report("not guarded, 15 desks in a line", make_line, 0, DW_DESKS - 2, DW_DESKS - 1);
+    measure_report("not guarded, low processes last", make_late, 0, DW_DESKS - 2, DW_DESKS - 1);
+    measure_report("not guarded, around a full desk", make_around, 0, DW_DESKS - 2, DW_DESKS - 1);
+    measure_report("not guarded, all rights set", make_full, 0, DW_DESKS - 1, MIDDLE);
+    measure_report("not guarded, beside a line", make_shortcut, 0, DW_DESKS - 1, MIDDLE);
+}
+
+/* The line with a few rights set anew, which shorten it, lead back or break it. */
+static void make_bent(dw_setup *s)
+{
+    make_line(s);
+    for (int i = 0; i < RIGHTS_BENT; i++)
+        s->rights[below(DW_RIGHTS)] = (uint8_t)below(DW_RW + 1);
+}
+
+/* How many guard though there is a route, and how many lists are longer than the route's. */
+static int any_guarded, any_longer;
+
+static void compare_gate(const struct question *q, size_t room_len)
+{
+    uint32_t our_room[DW_ROUTE_NUMBERS], peer_room[DW_ROUTE_NUMBERS], calls;
+    dw_answer our, peer;
+
+    memset(our_room, 0xFF, sizeof our_room);
+    memset(peer_room, 0xFF, sizeof peer_room);
+    our = ask(q, 1, our_room, room_len);
+    peer = ask(q, 0, peer_room, room_len);
+    differs |= memcmp(&our, &peer, sizeof our) != 0 || memcmp(our_room, peer_room, sizeof our_room) != 0;
+    calls = peer_route(&q->s, q->a, q->b, peer_room, DW_ROUTE_NUMBERS).value;
+    any_guarded += peer.kind == DW_GUARDED && calls > 0;
+    any_longer += peer.kind == DW_UNGUARDED && peer.value > calls;
+}
+
+/* A desk of the setup, or, once in sixteen times, perhaps the first number that is none. */
+static uint32_t any_desk(const dw_setup *s)
+{
+    return below(s->desks + (below(16) == 0));
+}
+
+/* A desk that acts on the route from a to b; any desk where there is none. */
+static uint32_t desk_on_route(const struct question *q)
+{
+    uint32_t room[DW_ROUTE_NUMBERS];
+    dw_answer route = peer_route(&q->s, q->a, q->b, room, DW_ROUTE_NUMBERS);
+
+    return route.kind == DW_ROUTE ? q->s.desk_of[room[below(route.value) * DW_CALL_WIDTH + 1]] : any_desk(&q->s);
+}
+
+/* Desks are equal or none at times, the room is a number short at times, and one setup in eight has a bit changed. In setups
+ * of any counts a gate seldom matters, so half of them are bent lines, and half of the gates stand on the route. */
+static void compare_any_gates(void)
+{
+    for (int i = 0; i < ANY_GATES; i++) {
+        struct question q;
+
+        if (i % 2 == 0)
+            make_any(&q.s);
+        else
+            make_bent(&q.s);
+        q.a = any_desk(&q.s);
+        q.b = any_desk(&q.s);
+        q.gate = below(2) ? desk_on_route(&q) : any_desk(&q.s);
+        if (below(8) == 0)
+            damage(&q.s, sizeof q.s);
+        compare_gate(&q, DW_ROUTE_NUMBERS - (below(8) == 0));
+    }
 }
 
 /* ---- Stores. The list starts from a fresh store of the largest setup, so that each store that it meets fits. Here others
@@ -718,13 +841,19 @@ static void measure_text(void)
            our_time / peer_time, (unsigned long)text_len);
 }
 
-/* What is said at the end, and the exit status. Calls that do nothing would compare nothing. */
+/* What is said at the end, and the exit status. Calls that do nothing would compare nothing, and so would idle gates. */
 static int tell_end(int went)
 {
     printf("%d stores of any kind: at least %d calls on them went through, %d met one that does not fit\n", 3 * ANY_STORES,
            any_went, any_unfit);
+    printf("%d gates of any kind: %d guard though there is a route, %d make it longer\n", ANY_GATES, any_guarded,
+           any_longer);
     if (went * 2 < DW_CALLS || any_went * 10 < ANY_STORES || any_unfit < ANY_STORES) {
         printf("FAILED: too few of the calls go through, or too few of the stores do not fit\n");
+        return 1;
+    }
+    if (any_guarded * 40 < ANY_GATES || any_longer * 80 < ANY_GATES) {
+        printf("FAILED: too few of the gates guard, or too few make a route longer\n");
         return 1;
     }
     printf(differs ? "FAILED: an answer, a store or a room differs\n" : "every answer, store and room is the same\n");
@@ -752,13 +881,11 @@ int main(void)
     printf("%-32s not in the library yet\n", "(b) calls by dw_call_in_place");
 #endif
     measure("    calls by dw_call, by value", value_calls, peer_calls);
-    measure_route("route, 16 desks in a line", make_line, 0, DW_DESKS - 1);
-    measure_route("the same, lowest processes last", make_late, 0, DW_DESKS - 1);
-    measure_route("no route, back along the line", make_line, DW_DESKS - 1, 0);
-    measure_route("route, all rights set", make_full, 0, DW_DESKS - 1);
-    measure_route("route at once, beside a line", make_shortcut, 0, DW_DESKS - 1);
+    measure_routes();
+    measure_gates();
     measure_text();
     measure_grids();
     compare_any_stores();
+    compare_any_gates();
     return tell_end(went);
 }

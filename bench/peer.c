@@ -203,9 +203,10 @@ dw_answer peer_run(const dw_setup *setup, dw_store *store, const uint32_t *calls
     return answer(DW_NOTHING, (uint32_t)count);
 }
 
-/* ---- The route report: a breadth-first search back from b, then a walk forward from a. */
+/* ---- The route report and the gate report: a breadth-first search back from b, then a walk forward from a. */
 
-/* What one report or grid works with: each desk's first process, and for a route how many links it stands from b. */
+/* What one report or grid works with: each desk's first process, and for a route, or around a gate, how many links it
+ * stands from b. */
 struct search {
     const dw_setup *s;
     uint32_t first[DW_DESKS];
@@ -305,9 +306,20 @@ static void write_list(const struct search *r, uint32_t a, uint32_t b, uint32_t 
     put_call(at, DW_READ, r->first[b], f, 0);
 }
 
+/* Answers how many calls it wrote: 0 where no chain leads from a to b. */
+static uint32_t write_route(struct search *r, uint32_t a, uint32_t b, uint32_t *room)
+{
+    search_back(r, a, b);
+    if (r->links[a] == DW_DESKS)
+        return 0;
+    write_list(r, a, b, room);
+    return DW_ROUTE_CALLS(r->links[a]);
+}
+
 dw_answer peer_route(const dw_setup *setup, uint32_t a, uint32_t b, uint32_t *room, size_t room_len)
 {
     struct search r = {.s = setup};
+    uint32_t calls;
 
     if (!accepted(setup))
         return answer(DW_REFUSED, DW_REFUSAL_SETUP);
@@ -318,11 +330,28 @@ dw_answer peer_route(const dw_setup *setup, uint32_t a, uint32_t b, uint32_t *ro
     if (room_len < DW_ROUTE_NUMBERS)
         return answer(DW_REFUSED, DW_REFUSAL_ROOM);
     find_firsts(&r);
-    search_back(&r, a, b);
-    if (r.links[a] == DW_DESKS)
-        return answer(DW_NO_ROUTE, 0);
-    write_list(&r, a, b, room);
-    return answer(DW_ROUTE, DW_ROUTE_CALLS(r.links[a]));
+    calls = write_route(&r, a, b, room);
+    return answer(calls == 0 ? DW_NO_ROUTE : DW_ROUTE, calls);
+}
+
+/* The route report, with the gate desk taken out: it has no process, and so no link. */
+dw_answer peer_gate(const dw_setup *setup, uint32_t a, uint32_t b, uint32_t gate, uint32_t *room, size_t room_len)
+{
+    struct search r = {.s = setup};
+    uint32_t calls;
+
+    if (!accepted(setup))
+        return answer(DW_REFUSED, DW_REFUSAL_SETUP);
+    if (a >= setup->desks || b >= setup->desks || gate >= setup->desks)
+        return answer(DW_REFUSED, DW_REFUSAL_ROUTE_DESK);
+    if (a == b || a == gate || b == gate)
+        return answer(DW_REFUSED, DW_REFUSAL_SAME_DESK);
+    if (room_len < DW_ROUTE_NUMBERS)
+        return answer(DW_REFUSED, DW_REFUSAL_ROOM);
+    find_firsts(&r);
+    r.first[gate] = setup->processes;
+    calls = write_route(&r, a, b, room);
+    return answer(calls == 0 ? DW_GUARDED : DW_UNGUARDED, calls);
 }
 
 /* ---- The grid: all links once, as a table, then a breadth-first search forward from each desk over it. */

@@ -14,6 +14,9 @@ dw_answer peer_run(const dw_setup *setup, dw_store *store, const uint32_t *calls
 /* As dw_route. */
 dw_answer peer_route(const dw_setup *setup, uint32_t a, uint32_t b, uint32_t *room, size_t room_len);
 
+/* As dw_gate. */
+dw_answer peer_gate(const dw_setup *setup, uint32_t a, uint32_t b, uint32_t gate, uint32_t *room, size_t room_len);
+
 /* As dw_grid. */
 dw_answer peer_grid(const dw_setup *setup, uint32_t *room, size_t room_len);
 

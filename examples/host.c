@@ -1,7 +1,8 @@
-/* A host in C: accepts a setup, keeps one store in its memory, and lends it for ten calls. The first two have desk 2 read a
- * file before anything was written. The others carry a figure from desk 0 over desk 1 to desk 2, which has no right on the
- * file that desk 0 writes. Then it asks for routes between the desks, and for the number of links from every desk to every
- * desk at once.
+/* A host in C: accepts a setup, keeps one store in its memory, and lends it for eleven calls. The first two have desk 2 read
+ * a file before anything was written. The next eight carry a figure from desk 0 over desk 1 to desk 2, which has no right on
+ * the file that desk 0 writes. The last is refused. Then it asks for routes between the desks; whether all that goes from desk 0, the Scorer, to
+ * desk 2, the Buyers, passes desk 1, Release, and whether it still does with one right too many; and for the number of links
+ * from every desk to every desk at once.
  *
  * bin/host-example builds and runs it. With a C compiler on x86-64 Linux, after `rt staticlib dirgewater`:
  *     cc -Iinclude examples/host.c target/staticlib/libdirgewater.a -o host && ./host
@@ -9,6 +10,10 @@
 #include <stdio.h>
 
 #include "dirgewater.h"
+
+enum { SCORER, RELEASE, BUYERS };
+
+static const char *const desks[] = {"Scorer", "Release", "Buyers"};
 
 /* Three desks, two classes, three processes, two files. Process n sits at desk n; file n has class n. */
 static const uint8_t rights[] = {
@@ -70,6 +75,30 @@ static void print_route(dw_setup setup, uint32_t a, uint32_t b)
         printf("route\t%u\t%u\trefused\t%u\n", a, b, answer.value);
 }
 
+/* Where the gate does not guard, the room holds a list that shows it, with no call of the gate desk. */
+static void print_gate(dw_setup setup, uint32_t a, uint32_t b, uint32_t gate)
+{
+    static uint32_t room[DW_ROUTE_NUMBERS];
+    dw_answer answer = dw_gate(setup, a, b, gate, room, DW_ROUTE_NUMBERS);
+
+    printf("from %s to %s, gate %s", desks[a], desks[b], desks[gate]);
+    if (answer.kind == DW_GUARDED)
+        printf("\tguarded\n");
+    else if (answer.kind == DW_UNGUARDED)
+        printf("\tunguarded\t%u calls\n", answer.value);
+    else
+        printf("\trefused\t%u\n", answer.value);
+}
+
+/* The second time the Scorer may also write class 1, which the Buyers read. A setup may be altered in place: every function
+ * judges the one that it is handed. */
+static void print_gates(dw_setup setup)
+{
+    print_gate(setup, SCORER, BUYERS, RELEASE);
+    setup.rights[SCORER * DW_CLASSES + 1] = DW_W;
+    print_gate(setup, SCORER, BUYERS, RELEASE);
+}
+
 /* A row for each desk that is heard; 0 stands for no route and for the desk itself. */
 static void print_grid(dw_setup setup)
 {
@@ -113,6 +142,7 @@ int main(void)
     print_route(accepted.setup, 0, 2);
     print_route(accepted.setup, 2, 0);
     print_route(accepted.setup, 1, 1);
+    print_gates(accepted.setup);
     print_grid(accepted.setup);
     return 0;
 }

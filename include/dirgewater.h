@@ -54,7 +54,7 @@ extern "C" {
 
 /* The version of this header. It goes up when a struct, a function or a meaning changes; a library is built with the
  * header that it comes with. */
-#define DW_VERSION 3
+#define DW_VERSION 4
 
 /* ---- Sizes: the most of each thing. There is at least one of each, but a list of calls may be empty. */
 
@@ -125,6 +125,10 @@ extern "C" {
 #define DW_NO_ROUTE 0 /* value 0 */
 #define DW_ROUTE 1    /* value: the number of calls written */
 
+/* What the gate report answers, as a kind; DW_REFUSED is one too. */
+#define DW_GUARDED 0   /* value 0 */
+#define DW_UNGUARDED 1 /* value: the number of calls written, which go around the gate desk */
+
 /* ---- Refusals. Each is given exactly where its words hold and none earlier in the function's order does. */
 
 #define DW_REFUSAL_COUNT 1        /* a setup count lies outside its sizes */
@@ -138,11 +142,11 @@ extern "C" {
 #define DW_REFUSAL_COPY 9         /* COPY with x equal to f */
 #define DW_REFUSAL_LENGTH 10      /* the lengths of a setup's runs do not match its counts; or a list's length is
                                      not a multiple of DW_CALL_WIDTH, or is above DW_CALL_NUMBERS */
-#define DW_REFUSAL_ROOM 11        /* room for answers shorter than two numbers a call; or room for a route below
-                                     DW_ROUTE_NUMBERS; or room for the calls of a text below DW_CALL_NUMBERS; or room
+#define DW_REFUSAL_ROOM 11        /* room for answers shorter than two numbers a call; or room for a route, or for a
+                                     gate, below DW_ROUTE_NUMBERS; or room for the calls of a text below DW_CALL_NUMBERS; or room
                                      for a grid shorter than the number of desks times itself */
-#define DW_REFUSAL_ROUTE_DESK 12  /* a route desk is the number of desks or more */
-#define DW_REFUSAL_SAME_DESK 13   /* the two route desks are equal */
+#define DW_REFUSAL_ROUTE_DESK 12  /* a route desk, or one of a gate's three desks, is the number of desks or more */
+#define DW_REFUSAL_SAME_DESK 13   /* the two route desks are equal, or two of a gate's three desks are */
 #define DW_REFUSAL_LINE 14        /* a text breaks the line rules */
 #define DW_REFUSAL_SETUP 15       /* a setup that could not have been accepted */
 #define DW_REFUSAL_STORE 16       /* a store that does not fit its setup */
@@ -260,6 +264,16 @@ dw_listed dw_run(dw_setup setup, dw_store store, const uint32_t *calls, size_t c
  * it, LOCK of the next, COPY, UNLOCK; b's OPEN and READ. What lies past the list keeps its values.
  * Refusals, in this order: 15, 12, 13, 11. A refusal, and DW_NO_ROUTE, write nothing. */
 dw_answer dw_route(dw_setup setup, uint32_t a, uint32_t b, uint32_t *room, size_t room_len);
+
+/* Whether all that desk b can hear of desk a passes the desk gate. Where nothing is refused, DW_GUARDED is answered exactly
+ * when, for every list of calls from a fresh store in which gate makes no call, striking out a's calls changes none of b's
+ * answers; so where dw_route answers DW_NO_ROUTE for a and b, every desk guards them. Otherwise DW_UNGUARDED, and a list of calls
+ * that shows the difference, none of them gate's, is written to the front of room: the list that dw_route would write if gate
+ * had no process, so that no link ran from it or to it. What lies past the list keeps its values.
+ * Refusals, in this order: 15; 12 for any of the three desks; 13 where any two of them are equal; 11, where the room is below
+ * DW_ROUTE_NUMBERS, though no list that goes around a desk needs as much. With fewer than three desks one of 12 and 13 is given
+ * always, unless the setup is refused. A refusal, and DW_GUARDED, write nothing. */
+dw_answer dw_gate(dw_setup setup, uint32_t a, uint32_t b, uint32_t gate, uint32_t *room, size_t room_len);
 
 /* The number of links from every desk to every desk at once. With D the setup's own number of desks, D * D numbers fill the
  * front of room, and the one for a and b lies at DW_GRID_AT(D, a, b): 0 where a is b, and where there is no route from a to b,

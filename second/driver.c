@@ -12,7 +12,7 @@
 long read(int file, void *to, size_t count);
 long write(int file, const void *from, size_t count);
 
-enum { ACCEPT = 1, FRESH, JUDGE, CALL, CALL_IN_PLACE, LIST, ROUTE, READ_ALONE, READ_WITH_CALLS, GRID };
+enum { ACCEPT = 1, FRESH, JUDGE, CALL, CALL_IN_PLACE, LIST, ROUTE, READ_ALONE, READ_WITH_CALLS, GRID, GATE };
 
 /* Odd, so that a lent run lies at no rounder address than its type asks. */
 #define GUARD_WORDS 9
@@ -246,6 +246,15 @@ static void do_grid(void) {
     put_words(&first_words);
 }
 
+static void do_gate(void) {
+    take(&setup, sizeof setup);
+    uint32_t a = take_number(), b = take_number(), gate = take_number(), room_len = take_number();
+    take_words(&first_words, room_len);
+    dw_answer answer = dw_gate(setup, a, b, gate, of_words(&first_words), first_words.len);
+    put(&answer, sizeof answer);
+    put_words(&first_words);
+}
+
 static void do_case(uint32_t kind) {
     switch (kind) {
     case ACCEPT: do_accept(); break;
@@ -258,6 +267,7 @@ static void do_case(uint32_t kind) {
     case READ_ALONE: do_read_alone(); break;
     case READ_WITH_CALLS: do_read_with_calls(); break;
     case GRID: do_grid(); break;
+    case GATE: do_gate(); break;
     default: broken = 1;
     }
 }

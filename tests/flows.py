@@ -1,8 +1,9 @@
-"""Holds the route report, and the grid, to the information flows that SETools finds.
+"""Holds the route report, the grid and the gate report to the information flows that SETools finds.
 
 Usage: flows.py PROGRAM [SEED], from the root; PROGRAM is tests/routes.c, built.
 Each setup has a process at every desk and a file of every class. Its rights, as the allow statements of a policy, give
-SETools the flows desk, class, desk; two steps are a link.
+SETools the flows desk, class, desk; two steps are a link. For a gate SETools excludes the type of that desk, which ends
+the flows from it and to it and no other: each class is a type of its own.
 Its last line is 'N passed, M failed'.
 """
 import collections
@@ -23,10 +24,22 @@ R, W = 1, 2
 # The program is for x86-64, so that it needs the kit's loader or emulator.
 RUN = ['bash', '-c', '. bin/toolchain.sh && find_kit && run_c "$0"']
 
-# How many setups of each kind, and how many pairs there must be of no route, of one link, of two, and so on.
-MIXED, SPARSE, BENT = 100, 200, 200
-LEAST = [30000, 6000, 5000, 4000, 2500, 1500, 1000, 800, 500, 300, 150, 80, 40, 15, 5, 1]
+# How many setups of each kind.
+MIXED, SPARSE, BENT, CROSSED = 100, 200, 200, 60
 SEED = 1
+
+# What is counted, and how many there must be of each number of links. A triple is two desks and a gate.
+LEAST = {
+    'pairs by links, 0 for no route':
+        dict(enumerate([30000, 6000, 5000, 4000, 2500, 1500, 1000, 800, 500, 300, 150, 80, 40, 15, 5, 1])),
+    'triples guarded though there is a route, by its links':
+        dict(enumerate([300, 500, 550, 500, 450, 400, 300, 250, 200, 150, 100, 60, 30, 10], 2)),
+    'triples not guarded, by links':
+        dict(enumerate([4000, 3000, 2000, 1500, 1000, 800, 500, 400, 250, 150, 90, 45, 15, 3], 1)),
+    'triples not guarded with more links than the route has, by links':
+        dict(enumerate([20, 50, 65, 75, 80, 75, 60, 45, 30, 18, 8, 1], 3)),
+}
+PAIRS, GUARDED, UNGUARDED, LONGER = LEAST
 
 # The desks of the chain whose policy is spoilt.
 EYED = 8
@@ -38,11 +51,12 @@ TAIL = 'allow desk0 desk0:sheet idle;\nrole r;\nrole r types desk0;\nuser u role
 MAP = '1\nclass sheet 3\nread r 10\nwrite w 10\nidle n 1\n'
 PERMISSIONS = {R: 'read', W: 'write', R | W: '{ read write }'}
 
-# Rights go by desk and class; a pair that is not there has none.
-Setup = collections.namedtuple('Setup', 'desks classes rights desk_of class_of')
+# Rights go by desk and class; a pair that is not there has none. The gates are the desks that are asked about as gates:
+# SETools would take minutes for all desks of all setups.
+Setup = collections.namedtuple('Setup', 'desks classes rights desk_of class_of gates', defaults=[()])
 
 # What the program says of a setup, in the order of its lines.
-Said = collections.namedtuple('Said', 'report grid')
+Said = collections.namedtuple('Said', 'report grid gate')
 
 
 # ---- Setups.
@@ -102,12 +116,42 @@ def bent(rng):
     return setup
 
 
+def crossed(rng):
+    """A long chain, and a gate beside it with links from and to some of its desks, which shorten it and lead back."""
+    desks = rng.randint(DESKS - 6, DESKS)
+    chain, gate = line(rng, desks - 1), rng.randrange(desks)
+    rights = {(desk + (desk >= gate), kind): right for (desk, kind), right in chain.rights.items()}
+    for right in (R, W):
+        for kind in rng.sample(range(chain.classes), rng.randint(2, 4)):
+            give(rights, gate, kind, right)
+    return setup_of(rng, desks, chain.classes, rights)._replace(gates=[gate])
+
+
+def every_gate(setup):
+    return setup._replace(gates=range(setup.desks))
+
+
+def one_gate_or_none(rng, setup):
+    return setup._replace(gates=rng.sample(range(setup.desks), rng.randint(0, 1)))
+
+
 def all_setups(rng):
-    return [line(rng, desks) for desks in range(2, DESKS + 1)] + [
-        make(rng) for make, count in ((mixed, MIXED), (sparse, SPARSE), (bent, BENT)) for _ in range(count)]
+    lines = [line(rng, desks) for desks in range(2, DESKS + 1)]
+    others = [make(rng) for make, count in ((mixed, MIXED), (sparse, SPARSE), (bent, BENT)) for _ in range(count)]
+    return [*map(every_gate, lines), *(one_gate_or_none(rng, setup) for setup in others),
+            *(crossed(rng) for _ in range(CROSSED))]
 
 
-# ---- The answers: for each pair of desks the links, 0 for none.
+# ---- The answers: for each place, a pair of desks or a triple, the links, 0 for none. Places are in the order of the
+# program's lines.
+
+def pairs_of(setup, gate=None):
+    return itertools.permutations([desk for desk in range(setup.desks) if desk != gate], 2)
+
+
+def triples_of(setup):
+    return [(a, b, gate) for gate in setup.gates for a, b in pairs_of(setup, gate)]
+
 
 def lines_of(program, setups):
     """What the program says of all setups, in one run, since a program is slow to start under an emulator."""
@@ -115,20 +159,21 @@ def lines_of(program, setups):
     for s in setups:
         rights = [s.rights.get(place, 0) for place in itertools.product(range(s.desks), range(s.classes))]
         counts = [s.desks, s.classes, len(s.desk_of), len(s.class_of)]
-        text += ' '.join(map(str, counts + rights + s.desk_of + s.class_of)) + '\n'
+        text += ' '.join(map(str, [*counts, *rights, *s.desk_of, *s.class_of, len(s.gates), *s.gates])) + '\n'
     said = subprocess.run([*RUN, program], input=text, stdout=subprocess.PIPE, text=True, check=True).stdout
     return said.splitlines()
 
 
-def by_pair(pairs, numbers):
-    return dict(zip(pairs, map(int, numbers.split()), strict=True))
+def by_place(places, numbers):
+    return dict(zip(places, map(int, numbers.split()), strict=True))
 
 
 def said_of(setups, lines):
-    """What the report and the grid say of each setup; the grid has each desk with itself too."""
-    return [Said(by_pair(itertools.permutations(range(s.desks), 2), report),
-                 by_pair(itertools.product(range(s.desks), repeat=2), grid))
-            for s, report, grid in zip(setups, lines[::2], lines[1::2], strict=True)]
+    """What is said of each setup; the grid has each desk with itself too."""
+    return [Said(by_place(pairs_of(s), report),
+                 by_place(itertools.product(range(s.desks), repeat=2), grid),
+                 by_place(triples_of(s), gate))
+            for s, report, grid, gate in zip(setups, lines[::3], lines[1::3], lines[2::3], strict=True)]
 
 
 def policy_of(setup):
@@ -147,27 +192,32 @@ def links_of(path):
     return len(steps) // 2
 
 
+def shortest(analysis, a, b):
+    return sum(links_of(path) for path in analysis.shortest_path(f'desk{a}', f'desk{b}'))
+
+
 def flowing(room, setup):
-    """What SETools finds in the setup's policy."""
+    """What SETools finds in the setup's policy, from desk to desk and then around each gate."""
     source, binary = os.path.join(room, 'policy.conf'), os.path.join(room, 'policy')
     with open(source, 'w') as file:
         file.write(policy_of(setup))
     subprocess.run(['checkpolicy', '-o', binary, source], stdout=subprocess.DEVNULL, check=True)
     analysis = setools.InfoFlowAnalysis(setools.SELinuxPolicy(binary), setools.PermissionMap(os.path.join(room, 'map')))
-    found = {}
-    for a, b in itertools.permutations(range(setup.desks), 2):
-        found[a, b] = sum(links_of(path) for path in analysis.shortest_path(f'desk{a}', f'desk{b}'))
+    found = {pair: shortest(analysis, *pair) for pair in pairs_of(setup)}
+    for gate in setup.gates:
+        analysis.exclude = [f'desk{gate}']
+        found.update({(*pair, gate): shortest(analysis, *pair) for pair in pairs_of(setup, gate)})
     return found
 
 
 def unlike(said, flows):
-    """Each of the two that differs from SETools, with the pairs that it differs on: its links, and those due.
+    """Each of the three that differs from SETools, with the places that it differs on: its links, and those due.
 
     SETools is asked for no flow from a desk to itself; 0 is due there."""
-    due = {**flows, **{(desk, desk): 0 for desk, _ in flows}}
-    found = {name: {pair: (links, due[pair]) for pair, links in numbers.items() if links != due[pair]}
+    due = {**flows, **{(desk, desk): 0 for desk, *_ in flows}}
+    found = {name: {place: (links, due[place]) for place, links in numbers.items() if links != due[place]}
              for name, numbers in said._asdict().items()}
-    return {name: pairs for name, pairs in found.items() if pairs}
+    return {name: places for name, places in found.items() if places}
 
 
 def differences(program, room, setup, spoil=lambda setup: setup):
@@ -198,48 +248,92 @@ def show(program, room, name, setup):
     print(f'    desks of the processes {least.desk_of}, classes of the files {least.class_of}')
     for (desk, kind), right in least.rights.items():
         print(f'    desk {desk} on class {kind}: {PERMISSIONS[right]}')
-    for (a, b), (links, due) in differences(program, room, least)[name].items():
-        print(f'    from desk {a} to desk {b}: the {name} has {links} links and not {due}; 0 is no route, -1 no answer')
+    for (a, b, *gate), (links, due) in differences(program, room, least)[name].items():
+        way = f'from desk {a} to desk {b}' + ''.join(f' around desk {desk}' for desk in gate)
+        print(f'    {way}: the {name} has {links} links and not {due}; 0 is no route, -1 no answer')
 
 
 # ---- The checks: each one's text, and whether it holds.
 
+def kinds_of(flows):
+    """What each pair and each triple is counted as, and by which links."""
+    for place, links in flows.items():
+        route = flows[place[:2]]
+        if len(place) == 2:
+            yield PAIRS, links
+        elif links > 0:
+            yield UNGUARDED, links
+        elif route > 0:
+            yield GUARDED, route
+        if links > route:
+            yield LONGER, links
+
+
+def enough(counts):
+    for kind, least in LEAST.items():
+        few = [links for links in least if counts[kind, links] < least[links]]
+        text = ', '.join(f'{links}: {counts[kind, links]}' for links in least)
+        yield f'{kind}: {text}' + (f'; too few of {few}' if few else ''), not few
+
+
 def agree(program, room, setups):
-    counts, differing = collections.Counter(), {name: [] for name in Said._fields}
+    counts, places, differing = collections.Counter(), collections.Counter(), {name: [] for name in Said._fields}
     for setup, said in zip(setups, said_of(setups, lines_of(program, setups)), strict=True):
         flows = flowing(room, setup)
-        counts.update(flows.values())
+        counts.update(kinds_of(flows))
+        places.update(map(len, flows))
         for name in unlike(said, flows):
             differing[name].append(setup)
-    pairs = f'{len(setups)} setups, {sum(counts.values())} pairs of desks'
     for name, some in differing.items():
         if some:
             show(program, room, name, some[0])
-        yield f'{pairs}: the {name} differs on {len(some)} setups', not some
-    few = [links for links in range(DESKS) if counts[links] < LEAST[links]]
-    text = ', '.join(f'{links}: {counts[links]}' for links in range(DESKS))
-    yield f'pairs by links, 0 for no route: {text}' + (f'; too few of {few}' if few else ''), not few
+        asked = f'{places[3]} triples' if name == 'gate' else f'{places[2]} pairs'
+        yield f'{len(setups)} setups, {asked} of desks: the {name} differs on {len(some)} setups', not some
+    yield from enough(counts)
 
 
-def seen_twice(program, room, setup, spoil):
-    """How many pairs the report differs on, and the grid too, where the policy is of another setup."""
+def seen_by_all(program, room, setup, spoil):
+    """How many pairs all three differ on where the policy is of another setup, the gate with some gate at least."""
     found = differences(program, room, setup, spoil)
-    return len(found.get('report', {}).keys() & found.get('grid', {}).keys())
+    return len(set.intersection(*({place[:2] for place in found.get(name, ())} for name in Said._fields)))
 
 
 def see_policies(program, room, whole):
     """A policy that is not the setup's must be seen, and be cut down to the one link that it is about."""
     (first, _), *_, (_, last) = whole.rights  # in the order of the chain, each R or W alone
     drops = [functools.partial(without, place=place, right=right) for place, right in whole.rights.items()]
-    seen = sum(seen_twice(program, room, whole, drop) > 0 for drop in drops)
+    seen = sum(seen_by_all(program, room, whole, drop) > 0 for drop in drops)
     yield f'with a right of a chain dropped from the policy, {seen} of {len(drops)} seen', seen == len(drops)
-    added = seen_twice(program, room, whole, lambda s: s._replace(rights={**s.rights, (first, last): W}))
+    added = seen_by_all(program, room, whole, lambda s: s._replace(rights={**s.rights, (first, last): W}))
     yield f'with a right added that shortens the chain, {added} pairs seen', added > 0
-    turned = seen_twice(program, room, whole, lambda s: s._replace(rights={k: R + W - v for k, v in s.rights.items()}))
+    turned = seen_by_all(program, room, whole, lambda s: s._replace(rights={k: R + W - v for k, v in s.rights.items()}))
     yield f'with reads for writes and writes for reads, {turned} pairs seen', turned > 0
-    least = cut_down(lambda less: seen_twice(program, room, less, drops[0]), whole).rights
+    least = cut_down(lambda less: seen_by_all(program, room, less, drops[0]), whole).rights
     alone = len({kind for _, kind in least}) == 1 and sorted(least.values()) == [R, W]
     yield f'with a right dropped, the setup is cut down to {len(least)} rights', alone
+
+
+def without_desk(setup, desk):
+    return setup._replace(rights={place: right for place, right in setup.rights.items() if place[0] != desk})
+
+
+def see_struck_desks(program, room, whole):
+    """A policy without a desk's rights must be seen, but not at the gate that this desk is."""
+    seen = 0
+    for desk in whole.gates:
+        found = differences(program, room, whole, functools.partial(without_desk, desk=desk))
+        gates = {gate for _, _, gate in found.get('gate', ())}
+        seen += 'report' in found and len(gates) > 0 and desk not in gates
+    text = f'with a desk left without rights in the policy, {seen} of {len(whole.gates)} seen, and at other gates alone'
+    yield text, seen == len(whole.gates)
+
+
+def see_idle_gates(program, room, whole):
+    """A gate that says what the report says, as if it were passed, must be seen."""
+    said, flows = *said_of([whole], lines_of(program, [whole])), flowing(room, whole)
+    idle = said._replace(gate={place: said.report[place[:2]] for place in said.gate})
+    seen = len(unlike(idle, flows).get('gate', ()))
+    yield f'with a gate that says what the report says, {seen} triples seen', seen > 0
 
 
 def spoilt(lines, at):
@@ -251,7 +345,7 @@ def spoilt(lines, at):
 
 
 def see_numbers(program, room, whole):
-    """A number of the report or of the grid that is not the program's must be seen, and in that one of them alone."""
+    """A number of one line that is not the program's must be seen, and in that line alone."""
     lines, flows = lines_of(program, [whole]), flowing(room, whole)
     was = unlike(*said_of([whole], lines), flows)
     for at, name in enumerate(Said._fields):
@@ -262,8 +356,10 @@ def see_numbers(program, room, whole):
 
 
 def see(program, room, rng):
-    whole = line(rng, EYED)
+    whole = every_gate(line(rng, EYED))
     yield from see_policies(program, room, whole)
+    yield from see_struck_desks(program, room, whole)
+    yield from see_idle_gates(program, room, whole)
     yield from see_numbers(program, room, whole)
 
 

@@ -914,13 +914,12 @@ static dw_setup trial_setup(void)
     return s;
 }
 
-enum { SHORT_LIST = 16 };
+enum { SHORT_LIST = 32 };
 
 /* The store after a list of a few calls from a fresh one, and the answer of the last. */
-static dw_store after_list(const uint32_t *calls, uint32_t len, dw_answer *last)
+static dw_store after_list(dw_setup s, const uint32_t *calls, uint32_t len, dw_answer *last)
 {
     uint32_t answers[SHORT_LIST * DW_ANSWER_WIDTH] = {0}, written = len / DW_CALL_WIDTH * DW_ANSWER_WIDTH;
-    dw_setup s = trial_setup();
     dw_listed listed = dw_run(s, dw_fresh(s).store, calls, len, answers, LEN(answers));
 
     CHECK(is_answer(listed.answer, DW_DONE, len / DW_CALL_WIDTH));
@@ -929,11 +928,11 @@ static dw_store after_list(const uint32_t *calls, uint32_t len, dw_answer *last)
     return listed.store;
 }
 
-static void list_ends_in(const uint32_t *calls, uint32_t len, uint32_t kind, uint32_t value)
+static void list_ends_in(dw_setup s, const uint32_t *calls, uint32_t len, uint32_t kind, uint32_t value)
 {
     dw_answer last;
 
-    after_list(calls, len, &last);
+    after_list(s, calls, len, &last);
     CHECK(is_answer(last, kind, value));
 }
 
@@ -949,15 +948,16 @@ static void cases_end_as_they_should(void)
     static const uint32_t locked[] = {DW_OPEN, 1, 0, 0, DW_LOCK, 0, 0, 0, DW_WRITE, 0, 0, 6, DW_READ, 1, 0, 0};
     static const uint32_t unopened[] = {DW_LOCK, 0, 0, 0, DW_WRITE, 0, 0, 6, DW_UNLOCK, 0, 0, 0, DW_READ, 1, 0, 0};
     enum { CASE_6 = 3 * DW_CALL_WIDTH, WRITTEN = CASE_6 + 3 };
+    dw_setup s = trial_setup();
 
-    list_ends_in(locked, LEN(locked), DW_NOTHING, 0);
-    list_ends_in(unopened, LEN(unopened), DW_NOTHING, 0);
-    list_ends_in(fresh, LEN(fresh), DW_NOTHING, 0);
-    list_ends_in(no_lock, LEN(no_lock), DW_NOTHING, 0);
-    list_ends_in(read_again, CASE_6, DW_NOTHING, 0);
-    list_ends_in(read_again, LEN(read_again), DW_FIGURE, 6);
+    list_ends_in(s, locked, LEN(locked), DW_NOTHING, 0);
+    list_ends_in(s, unopened, LEN(unopened), DW_NOTHING, 0);
+    list_ends_in(s, fresh, LEN(fresh), DW_NOTHING, 0);
+    list_ends_in(s, no_lock, LEN(no_lock), DW_NOTHING, 0);
+    list_ends_in(s, read_again, CASE_6, DW_NOTHING, 0);
+    list_ends_in(s, read_again, LEN(read_again), DW_FIGURE, 6);
     read_again[WRITTEN] = 0;
-    list_ends_in(read_again, LEN(read_again), DW_FIGURE, 0);
+    list_ends_in(s, read_again, LEN(read_again), DW_FIGURE, 0);
 }
 
 /* The store after such a list, call by call in place. */
@@ -982,11 +982,11 @@ static void states_are_bytes(void)
     dw_store blank = blank_store(), one, other;
     dw_answer last;
 
-    one = after_list(at_once, LEN(at_once), &last);
+    one = after_list(trial_setup(), at_once, LEN(at_once), &last);
     other = after_calls(over_six, LEN(over_six));
     CHECK(same_store(&one, &other));
     CHECK(!same_store(&one, &blank));
-    one = after_list(taken_back, LEN(taken_back), &last);
+    one = after_list(trial_setup(), taken_back, LEN(taken_back), &last);
     other = after_calls(taken_back, LEN(taken_back));
     CHECK(same_store(&one, &blank) && same_store(&other, &blank));
 }
@@ -1001,18 +1001,18 @@ static const uint32_t one_link[] = {DW_LOCK,   0, 0, 0, DW_WRITE, 0, 0, 1, DW_UN
                                     DW_OPEN,   1, 0, 0, DW_READ,  1, 0, 0};
 
 /* The last desk reads figure 1, and nothing once the first desk's calls are struck out. */
-static void route_is_heard(const uint32_t *calls, uint32_t len)
+static void route_is_heard(dw_setup s, const uint32_t *calls, uint32_t len)
 {
     enum { FIRST_DESKS = 3 * DW_CALL_WIDTH };
 
-    list_ends_in(calls, len, DW_FIGURE, 1);
-    list_ends_in(calls + FIRST_DESKS, len - FIRST_DESKS, DW_NOTHING, 0);
+    list_ends_in(s, calls, len, DW_FIGURE, 1);
+    list_ends_in(s, calls + FIRST_DESKS, len - FIRST_DESKS, DW_NOTHING, 0);
 }
 
 static void routes_are_heard(void)
 {
-    route_is_heard(two_links, LEN(two_links));
-    route_is_heard(one_link, LEN(one_link));
+    route_is_heard(trial_setup(), two_links, LEN(two_links));
+    route_is_heard(trial_setup(), one_link, LEN(one_link));
 }
 
 /* The run that starts here has these numbers in front, and all the rest of the room is as it was made. */
@@ -1164,6 +1164,232 @@ static void refused_grids_write_nothing(void)
     grid_is_refused(s, 0, DW_REFUSAL_SETUP);
 }
 
+/* ---- Gates. */
+
+/* Desk 6 writes to 1, 2 and 7; 1 to 4; 4 to 3 and 5; 3 to 2 and 7, which both write to 0; 0 to 5; 5 to 6 and 4. Classes 0
+ * and 2 have two files each, desks 3 and 6 two processes each, and no process sits at the desk of its own number. */
+static const dw_setup eight_desks = {
+    .desks = 8,
+    .classes = 7,
+    .processes = 10,
+    .files = 9,
+    .rights = {[0 * DW_CLASSES] = DW_NONE, DW_NONE, DW_NONE, DW_NONE, DW_R,    DW_W,    DW_NONE,
+               [1 * DW_CLASSES] = DW_R,    DW_W,    DW_NONE, DW_NONE, DW_NONE, DW_NONE, DW_NONE,
+               [2 * DW_CLASSES] = DW_R,    DW_NONE, DW_NONE, DW_R,    DW_W,    DW_NONE, DW_NONE,
+               [3 * DW_CLASSES] = DW_NONE, DW_NONE, DW_R,    DW_W,    DW_NONE, DW_NONE, DW_NONE,
+               [4 * DW_CLASSES] = DW_NONE, DW_R,    DW_W,    DW_NONE, DW_NONE, DW_NONE, DW_R,
+               [5 * DW_CLASSES] = DW_NONE, DW_NONE, DW_R,    DW_NONE, DW_NONE, DW_R,    DW_W,
+               [6 * DW_CLASSES] = DW_W,    DW_NONE, DW_NONE, DW_NONE, DW_NONE, DW_NONE, DW_R,
+               [7 * DW_CLASSES] = DW_R,    DW_NONE, DW_NONE, DW_R,    DW_W,    DW_NONE, DW_NONE},
+    .desk_of = {1, 5, 4, 6, 7, 3, 3, 0, 2, 6},
+    .class_of = {5, 0, 2, 6, 3, 0, 1, 4, 2},
+};
+
+/* The chain over desk 1 would have three links, 6, 1, 4, 3. Around desk 1 it has five: 6, 2, 0, 5, 4, 3. */
+static const uint32_t around[] = {DW_LOCK,   3, 1, 0, DW_WRITE,  3, 1, 1, DW_UNLOCK, 3, 1, 0,
+                                  DW_OPEN,   8, 1, 0, DW_LOCK,   8, 7, 0, DW_COPY,   8, 1, 7,
+                                  DW_UNLOCK, 8, 7, 0, DW_OPEN,   7, 7, 0, DW_LOCK,   7, 0, 0,
+                                  DW_COPY,   7, 7, 0, DW_UNLOCK, 7, 0, 0, DW_OPEN,   1, 0, 0,
+                                  DW_LOCK,   1, 3, 0, DW_COPY,   1, 0, 3, DW_UNLOCK, 1, 3, 0,
+                                  DW_OPEN,   2, 3, 0, DW_LOCK,   2, 2, 0, DW_COPY,   2, 3, 2,
+                                  DW_UNLOCK, 2, 2, 0, DW_OPEN,   5, 2, 0, DW_READ,   5, 2, 0};
+
+/* The chain that goes around a gate: the process that acts for each of its desks, and the file of each link. With no link
+ * the gate guards. */
+struct chain {
+    uint32_t a, b, gate, links;
+    uint8_t processes[DW_DESKS], files[DW_DESKS];
+};
+
+/* Each order of desks 1, 3 and 6 has another number of links. Others follow. */
+static const struct chain chains[] = {
+    {3, 1, 6, 0, {0}, {0}},
+    {6, 1, 3, 1, {3, 0}, {1}},
+    {1, 3, 6, 2, {0, 2, 5}, {6, 2}},
+    {1, 6, 3, 3, {0, 2, 1, 3}, {6, 2, 3}},
+    {3, 6, 1, 4, {5, 8, 7, 1, 3}, {4, 7, 0, 3}},
+    {6, 3, 1, 5, {3, 8, 7, 1, 2, 5}, {1, 7, 0, 3, 2}},
+    {3, 6, 7, 4, {5, 8, 7, 1, 3}, {4, 7, 0, 3}}, /* desks 2 and 7 have the same rights, and 2 is the lower */
+    {3, 6, 2, 4, {5, 4, 7, 1, 3}, {4, 7, 0, 3}}, /* 7 acts where 2 is the gate */
+    {6, 3, 2, 3, {3, 0, 2, 5}, {1, 6, 2}},       /* the gate stands beside the fewest links */
+    {6, 3, 4, 0, {0}, {0}},                      /* both ways to 3 pass the gate */
+    {3, 6, 0, 0, {0}, {0}},                      /* so do both from 3 */
+};
+
+/* Of the grid's five desks, where a desk without a process, or a class without a file, would lead around a gate. */
+static const struct chain chains_of_five[] = {
+    {0, 1, 4, 0, {0}, {0}},
+    {4, 3, 0, 0, {0}, {0}},
+    {0, 2, 4, 0, {0}, {0}},
+    {0, 1, 2, 2, {1, 0, 3}, {2, 0}},
+};
+
+static uint32_t *put_call(uint32_t *at, struct numbers n)
+{
+    at[0] = n.op;
+    at[1] = n.p;
+    at[2] = n.f;
+    at[3] = n.x;
+    return at + DW_CALL_WIDTH;
+}
+
+/* Lays out the calls of a chain that has links, and answers how many numbers they take. */
+static uint32_t lay_out_chain(const struct chain *c, uint32_t *calls)
+{
+    const uint8_t *p = c->processes, *f = c->files;
+    uint32_t *at = calls;
+
+    at = put_call(at, call_of(DW_LOCK, p[0], f[0], 0));
+    at = put_call(at, call_of(DW_WRITE, p[0], f[0], 1));
+    at = put_call(at, call_of(DW_UNLOCK, p[0], f[0], 0));
+    for (uint32_t i = 1; i < c->links; i++) {
+        at = put_call(at, call_of(DW_OPEN, p[i], f[i - 1], 0));
+        at = put_call(at, call_of(DW_LOCK, p[i], f[i], 0));
+        at = put_call(at, call_of(DW_COPY, p[i], f[i - 1], f[i]));
+        at = put_call(at, call_of(DW_UNLOCK, p[i], f[i], 0));
+    }
+    at = put_call(at, call_of(DW_OPEN, p[c->links], f[c->links - 1], 0));
+    at = put_call(at, call_of(DW_READ, p[c->links], f[c->links - 1], 0));
+    return (uint32_t)(at - calls);
+}
+
+/* The report writes the list and not a number more; with len of 0 expected it writes nothing. */
+static void gate_is(dw_setup s, struct chain c, size_t room_len, uint32_t kind, uint32_t value, const uint32_t *expected,
+                    uint32_t len)
+{
+    uint32_t *at = last_numbers(&room, room_len);
+
+    make_room();
+    CHECK(is_answer(dw_gate(s, c.a, c.b, c.gate, at, room_len), kind, value));
+    room_has(at, expected, len);
+}
+
+static void chain_is_written(dw_setup s, struct chain c)
+{
+    uint32_t expected[DW_ROUTE_NUMBERS] = {0};
+
+    if (c.links == 0)
+        gate_is(s, c, DW_ROUTE_NUMBERS, DW_GUARDED, 0, expected, 0);
+    else
+        gate_is(s, c, DW_ROUTE_NUMBERS, DW_UNGUARDED, DW_ROUTE_CALLS(c.links), expected, lay_out_chain(&c, expected));
+}
+
+/* In a ring the only way leads forward, and a gate that stands on it guards. */
+static struct chain ring_chain(uint32_t desks, uint32_t a, uint32_t b, uint32_t gate)
+{
+    uint32_t links = (b + desks - a) % desks, to_gate = (gate + desks - a) % desks;
+    struct chain c = {a, b, gate, links < to_gate ? links : 0, {0}, {0}};
+
+    for (uint32_t i = 0; i <= links; i++)
+        c.processes[i] = c.files[i] = (uint8_t)((a + i) % desks);
+    return c;
+}
+
+/* From one desk to every other, with every third for a gate. */
+static void ring_is_gated(uint32_t desks)
+{
+    dw_setup s = ring_setup(desks);
+    uint32_t a = desks / 2;
+
+    for (uint32_t b = 0; b < desks; b++)
+        for (uint32_t gate = 0; gate < desks; gate++)
+            if (a != b && a != gate && b != gate)
+                chain_is_written(s, ring_chain(desks, a, b, gate));
+}
+
+/* A desk taken for another one is seen, whichever two are. */
+static void gates_take_their_desks(void)
+{
+    for (uint32_t i = 0; i < LEN(chains); i++)
+        chain_is_written(eight_desks, chains[i]);
+    for (uint32_t i = 0; i < LEN(chains_of_five); i++)
+        chain_is_written(five_desks, chains_of_five[i]);
+    for (uint32_t desks = 3; desks <= DW_DESKS; desks++)
+        ring_is_gated(desks);
+}
+
+/* None of the calls is of desk 1, which has process 0 alone. */
+static void gates_are_heard(void)
+{
+    route_is_heard(eight_desks, around, LEN(around));
+    for (uint32_t i = 0; i < LEN(around); i += DW_CALL_WIDTH)
+        CHECK(eight_desks.desk_of[around[i + 1]] != 1);
+}
+
+/* The least room is the report's, and a longer one is filled no further. */
+static void gates_keep_to_their_room(void)
+{
+    static const size_t rooms[] = {DW_ROUTE_NUMBERS, DW_ROUTE_NUMBERS + 1, DW_ROUTE_NUMBERS + 5, CALLS_LEN};
+    struct chain unguarded = {.a = 6, .b = 3, .gate = 1}, guarded = {.a = 3, .b = 1, .gate = 6};
+
+    for (uint32_t i = 0; i < LEN(rooms); i++) {
+        gate_is(eight_desks, unguarded, rooms[i], DW_UNGUARDED, DW_ROUTE_CALLS(5), around, LEN(around));
+        gate_is(eight_desks, guarded, rooms[i], DW_GUARDED, 0, around, 0);
+    }
+    gate_is(trial_setup(), (struct chain){.a = 0, .b = 2, .gate = 1}, DW_ROUTE_NUMBERS, DW_GUARDED, 0, one_link, 0);
+    gate_is(trial_setup(), (struct chain){.a = 0, .b = 1, .gate = 2}, DW_ROUTE_NUMBERS, DW_UNGUARDED, DW_ROUTE_CALLS(1),
+            one_link, LEN(one_link));
+}
+
+static void gate_is_refused(dw_setup s, uint32_t a, uint32_t b, uint32_t gate, size_t room_len, uint32_t refusal)
+{
+    make_room();
+    CHECK(is_answer(dw_gate(s, a, b, gate, last_numbers(&room, room_len), room_len), DW_REFUSED, refusal));
+    room_is_untouched(0, CALLS_LEN);
+    guards_stand();
+}
+
+/* A number that is no desk's, in each place, is refused before equal desks and before the room. */
+static void no_desk_is_refused(dw_setup s, uint32_t none)
+{
+    gate_is_refused(s, none, 3, 1, DW_ROUTE_NUMBERS, DW_REFUSAL_ROUTE_DESK);
+    gate_is_refused(s, 6, none, 1, DW_ROUTE_NUMBERS, DW_REFUSAL_ROUTE_DESK);
+    gate_is_refused(s, 6, 3, none, DW_ROUTE_NUMBERS, DW_REFUSAL_ROUTE_DESK);
+    gate_is_refused(s, none, 3, 3, 0, DW_REFUSAL_ROUTE_DESK);
+    gate_is_refused(s, 6, none, 6, 0, DW_REFUSAL_ROUTE_DESK);
+    gate_is_refused(s, 6, 6, none, 0, DW_REFUSAL_ROUTE_DESK);
+    gate_is_refused(s, none, none, none, 0, DW_REFUSAL_ROUTE_DESK);
+}
+
+/* With one desk or two there is none left for a gate. */
+static void few_desks_are_refused(uint32_t desks)
+{
+    dw_setup s = ring_setup(desks);
+
+    for (uint32_t a = 0; a <= desks; a++)
+        for (uint32_t b = 0; b <= desks; b++)
+            for (uint32_t gate = 0; gate <= desks; gate++)
+                gate_is_refused(s, a, b, gate, DW_ROUTE_NUMBERS,
+                                a < desks && b < desks && gate < desks ? DW_REFUSAL_SAME_DESK : DW_REFUSAL_ROUTE_DESK);
+    s.class_of[s.files] = 1;
+    gate_is_refused(s, 0, 0, 0, 0, DW_REFUSAL_SETUP);
+}
+
+/* Some numbers have a desk's for their low byte or low half, so that a library that looked there alone would be seen. The
+ * room is judged where a gate guards too, and last. */
+static void refused_gates_write_nothing(void)
+{
+    enum { NO_DESK = 8 };
+    static const uint32_t no_desks[] = {NO_DESK, DW_DESKS, 0x100, 0x10000, 0x80000000u, 0xFFFFFFFFu};
+    dw_setup s = eight_desks;
+
+    for (uint32_t i = 0; i < LEN(no_desks); i++)
+        no_desk_is_refused(s, no_desks[i]);
+    gate_is_refused(s, 6, 6, 1, 0, DW_REFUSAL_SAME_DESK);
+    gate_is_refused(s, 6, 3, 6, 0, DW_REFUSAL_SAME_DESK);
+    gate_is_refused(s, 6, 3, 3, 0, DW_REFUSAL_SAME_DESK);
+    gate_is_refused(s, 3, 3, 3, DW_ROUTE_NUMBERS, DW_REFUSAL_SAME_DESK);
+    gate_is_refused(s, 6, 3, 1, DW_ROUTE_NUMBERS - 1, DW_REFUSAL_ROOM);
+    gate_is_refused(s, 3, 1, 6, DW_ROUTE_NUMBERS - 1, DW_REFUSAL_ROOM);
+    gate_is_refused(s, 6, 3, 1, 0, DW_REFUSAL_ROOM);
+    few_desks_are_refused(1);
+    few_desks_are_refused(2);
+    s.class_of[s.files] = 1;
+    gate_is_refused(s, 6, 3, 1, DW_ROUTE_NUMBERS, DW_REFUSAL_SETUP);
+    gate_is_refused(s, 3, 1, 6, DW_ROUTE_NUMBERS, DW_REFUSAL_SETUP);
+    gate_is_refused(s, NO_DESK, NO_DESK, NO_DESK, 0, DW_REFUSAL_SETUP);
+}
+
 /* ---- Texts. The trial setup and two calls, with a guard right past the last byte. */
 
 #define LAST_FILE "file\t1\t1\n"
@@ -1273,6 +1499,10 @@ static const struct group {
     {"a route keeps to its room", routes_keep_to_their_room},
     {"a grid keeps to its room", grids_keep_to_their_room},
     {"a refused grid writes nothing", refused_grids_write_nothing},
+    {"a gate takes each desk by its place", gates_take_their_desks},
+    {"the way around a gate is heard, and nothing without its first desk", gates_are_heard},
+    {"a gate keeps to its room", gates_keep_to_their_room},
+    {"a refused gate writes nothing", refused_gates_write_nothing},
     {"a setup text is read alone", setups_are_read},
     {"a text's calls keep to their room", texts_keep_to_their_room},
 };

@@ -1,9 +1,10 @@
-/* What the route report and the grid say of many setups: for each pair of desks, the number of links from one to the
- * other.
+/* What the route report, the grid and the gate report say of many setups: the number of links from one desk to another.
  *
  * Standard input has setups as numbers: the four counts, the rights row by desk, the desk of each process, the class of
- * each file. Each gives two lines of output, the report's and the grid's: for each desk, and then each other desk, the
- * links between them, 0 for no route, -1 where it tells neither. The grid's line has each desk with itself too. */
+ * each file; then how many desks are asked about as gates, and which. Each setup gives three lines of output, the report's,
+ * the grid's and the gate's: for each desk, and then each other desk, the links between them, 0 for no route, -1 where it
+ * tells neither. The grid's line has each desk with itself too. The gate's line has the links around each gate in turn, over
+ * the desks other than the gate, and 0 where it guards. */
 #include <stdio.h>
 
 #include "dirgewater.h"
@@ -41,14 +42,22 @@ static int read_setup(uint32_t desks, dw_setup *setup)
     return given.refusal == 0;
 }
 
-static int links(dw_setup setup, uint32_t from, uint32_t to)
+static int read_gates(uint8_t *gates, uint32_t *count)
 {
-    uint32_t room[DW_ROUTE_NUMBERS];
-    dw_answer said = dw_route(setup, from, to, room, DW_ROUTE_NUMBERS);
+    unsigned number;
 
-    if (said.kind == DW_NO_ROUTE && said.value == 0)
+    if (scanf("%u", &number) != 1 || number > DW_DESKS)
         return 0;
-    for (int k = 1; said.kind == DW_ROUTE && k < DW_DESKS; k++)
+    *count = number;
+    return read_bytes(gates, number);
+}
+
+/* The links of the list that was written, if the answer is of the one kind; 0 if it is of the other, where none was. */
+static int links(dw_answer said, uint32_t written, uint32_t none)
+{
+    if (said.kind == none && said.value == 0)
+        return 0;
+    for (int k = 1; said.kind == written && k < DW_DESKS; k++)
         if (said.value == DW_ROUTE_CALLS((uint32_t)k))
             return k;
     return -1;
@@ -56,10 +65,12 @@ static int links(dw_setup setup, uint32_t from, uint32_t to)
 
 static void print_report(dw_setup setup)
 {
+    uint32_t room[DW_ROUTE_NUMBERS];
+
     for (uint32_t from = 0; from < setup.desks; from++)
         for (uint32_t to = 0; to < setup.desks; to++)
             if (from != to)
-                printf("%d ", links(setup, from, to));
+                printf("%d ", links(dw_route(setup, from, to, room, DW_ROUTE_NUMBERS), DW_ROUTE, DW_NO_ROUTE));
     printf("\n");
 }
 
@@ -81,18 +92,38 @@ static void print_grid(dw_setup setup)
     printf("\n");
 }
 
+static void print_gate(dw_setup setup, uint32_t gate)
+{
+    uint32_t room[DW_ROUTE_NUMBERS];
+
+    for (uint32_t from = 0; from < setup.desks; from++)
+        for (uint32_t to = 0; to < setup.desks; to++)
+            if (from != to && from != gate && to != gate)
+                printf("%d ", links(dw_gate(setup, from, to, gate, room, DW_ROUTE_NUMBERS), DW_UNGUARDED, DW_GUARDED));
+}
+
+static void print_gates(dw_setup setup, const uint8_t *gates, uint32_t count)
+{
+    for (uint32_t i = 0; i < count; i++)
+        print_gate(setup, gates[i]);
+    printf("\n");
+}
+
 int main(void)
 {
+    uint8_t gates[DW_DESKS];
+    uint32_t count;
     dw_setup setup;
     unsigned desks;
 
     while (scanf("%u", &desks) == 1) {
-        if (!read_setup(desks, &setup)) {
+        if (!read_setup(desks, &setup) || !read_gates(gates, &count)) {
             printf("no setup\n");
             return 1;
         }
         print_report(setup);
         print_grid(setup);
+        print_gates(setup, gates, count);
     }
     return 0;
 }

@@ -4,5 +4,8 @@
 
 int printf(const char *format, ...);
 int scanf(const char *format, ...);
+int getchar(void);
+
+#define EOF (-1)
 
 #endif

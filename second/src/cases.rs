@@ -13,10 +13,10 @@ use crate::sizes::{ANSWER_WIDTH, CALL_WIDTH, DESKS, GRID_NUMBERS, LINKS};
 use crate::store::{fresh, Store};
 
 const RULES: Rules = Rules::UNTURNED;
-const UNTOUCHED: u32 = 77;
+pub const UNTOUCHED: u32 = 77;
 
 /// The room for a route by document 01's own number, so that the one that is reckoned is held to it.
-const ROUTE_ROOM: usize = 244;
+pub const ROUTE_ROOM: usize = 244;
 
 const PROGRAM: &str = "store\t1\t3\t2\t3\t2\n\
     access\t0\t0\tW\naccess\t1\t0\tR\naccess\t1\t1\tW\naccess\t2\t1\tR\n\
@@ -38,7 +38,7 @@ pub fn q() -> Setup {
     accept(RULES, &bytes).unwrap()
 }
 
-fn two_desks() -> Setup {
+pub fn two_desks() -> Setup {
     let bytes = SetupBytes {
         desks: 2,
         classes: 1,
@@ -185,10 +185,8 @@ fn grid_has_the_desk_that_is_heard_by_row() {
     assert_eq!(room, [0, 0, 1, 0]);
 }
 
-/// A line of all desks has every number of links, from each desk to those after it. Each link has a class of
-/// its own with one file.
-#[test]
-fn grid_of_a_line_of_sixteen_desks() {
+/// A line of all desks, each with a process. Each link has a class of its own with one file.
+pub fn line() -> Setup {
     // Held to the numbers themselves, so that a wrong size does not make a shorter line.
     assert_eq!((DESKS, LINKS, GRID_NUMBERS), (16, 15, 256));
     let right = |desk, class| match class {
@@ -206,9 +204,14 @@ fn grid_of_a_line_of_sixteen_desks() {
         desk_of: (0..DESKS as u8).collect(),
         class_of: (0..LINKS as u8).collect(),
     };
-    let line = accept(RULES, &bytes).unwrap();
+    accept(RULES, &bytes).unwrap()
+}
+
+/// A line has every number of links, from each desk to those after it.
+#[test]
+fn grid_of_a_line_of_sixteen_desks() {
     let mut room = [UNTOUCHED; GRID_NUMBERS + 1];
-    assert_eq!(grid(RULES, &line, &mut room), Ok(GRID_NUMBERS as u32));
+    assert_eq!(grid(RULES, &line(), &mut room), Ok(GRID_NUMBERS as u32));
     for (place, number) in room[..GRID_NUMBERS].iter().enumerate() {
         let (a, b) = (place / DESKS, place % DESKS);
         assert_eq!(*number as usize, b.saturating_sub(a));

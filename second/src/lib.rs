@@ -4,6 +4,7 @@
 #![forbid(unsafe_code)]
 
 pub mod call;
+pub mod gate;
 pub mod grid;
 pub mod list;
 pub mod print;
@@ -17,5 +18,7 @@ pub mod text;
 
 #[cfg(test)]
 mod cases;
+#[cfg(test)]
+mod houses;
 #[cfg(test)]
 mod marks;

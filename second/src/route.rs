@@ -163,17 +163,21 @@ pub fn report(rules: Rules, setup: &Setup, a: u32, b: u32, room: &mut [u32]) -> 
     if let Some(refusal) = refusal_of_route(rules, setup, a, b, room) {
         return Report::Refused(refusal);
     }
-    let Some(chain) = chain(rules, setup, a as usize, b as usize) else {
-        return Report::NoRoute;
-    };
-    let Some(calls) = calls_along(rules, setup, &chain) else {
-        return Report::NoRoute;
-    };
+    match write_route(rules, setup, a, b, room) {
+        Some(calls) => Report::Route(calls),
+        None => Report::NoRoute,
+    }
+}
+
+/// The number of a route's calls, which fill the front of a room that holds them; nothing where there is no route.
+pub fn write_route(rules: Rules, setup: &Setup, a: u32, b: u32, room: &mut [u32]) -> Option<u32> {
+    let chain = chain(rules, setup, a as usize, b as usize)?;
+    let calls = calls_along(rules, setup, &chain)?;
     for (call, place) in calls.iter().zip(room.chunks_mut(CALL_WIDTH)) {
         place.copy_from_slice(&call.numbers());
     }
     if rules.turned(Turn::RouteTailCleared) {
         room[calls.len() * CALL_WIDTH..].fill(0);
     }
-    Report::Route(calls.len() as u32)
+    Some(calls.len() as u32)
 }

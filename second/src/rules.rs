@@ -92,10 +92,36 @@ pub enum Turn {
     GridRoomOfMost,
     GridRoomBeforeSetup,
     GridAnswersDesks,
+    // The gate. Those from the first to the last of these are its turns.
+    GateIgnored,
+    GateTakesA,
+    GateOnlyNextToA,
+    GateOnlyNextToB,
+    GateOnOwnRoute,
+    GateWritesOwnRoute,
+    GateTakesClasses,
+    GateSeatsForA,
+    GateTurnedAround,
+    GateDeskUnjudged,
+    GatePairMayBeEqual,
+    GateMayBeA,
+    GateMayBeB,
+    GateDeskBeforeSetup,
+    GateSameBeforeDesk,
+    GateRoomBeforeDesk,
+    GateRoomBeforeSame,
+    GateOneShorter,
+    GateRoomOfLongest,
+    GateGuardedNeedsNoRoom,
+    GateGuardedCleared,
+    GateRefusedCleared,
+    GateTailCleared,
+    GateOneCallMore,
+    GateLinksForCalls,
 }
 
 /// Every turn that breaks a rule.
-pub const TURNS: [Turn; 80] = [
+pub const TURNS: [Turn; 105] = [
     Turn::ReadUnopened,
     Turn::ReadLockedByAnother,
     Turn::WriteUnlocked,
@@ -176,12 +202,42 @@ pub const TURNS: [Turn; 80] = [
     Turn::GridRoomOfMost,
     Turn::GridRoomBeforeSetup,
     Turn::GridAnswersDesks,
+    Turn::GateIgnored,
+    Turn::GateTakesA,
+    Turn::GateOnlyNextToA,
+    Turn::GateOnlyNextToB,
+    Turn::GateOnOwnRoute,
+    Turn::GateWritesOwnRoute,
+    Turn::GateTakesClasses,
+    Turn::GateSeatsForA,
+    Turn::GateTurnedAround,
+    Turn::GateDeskUnjudged,
+    Turn::GatePairMayBeEqual,
+    Turn::GateMayBeA,
+    Turn::GateMayBeB,
+    Turn::GateDeskBeforeSetup,
+    Turn::GateSameBeforeDesk,
+    Turn::GateRoomBeforeDesk,
+    Turn::GateRoomBeforeSame,
+    Turn::GateOneShorter,
+    Turn::GateRoomOfLongest,
+    Turn::GateGuardedNeedsNoRoom,
+    Turn::GateGuardedCleared,
+    Turn::GateRefusedCleared,
+    Turn::GateTailCleared,
+    Turn::GateOneCallMore,
+    Turn::GateLinksForCalls,
 ];
 
 impl Turn {
     /// Whether it breaks a rule of the grid, so that nothing but a grid can show it.
     pub fn is_of_grid(self) -> bool {
         (Turn::GridTransposed..=Turn::GridAnswersDesks).contains(&self)
+    }
+
+    /// Whether it breaks a rule of the gate, so that nothing but a gate can show it.
+    pub fn is_of_gate(self) -> bool {
+        (Turn::GateIgnored..=Turn::GateLinksForCalls).contains(&self)
     }
 }
 

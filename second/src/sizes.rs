@@ -38,6 +38,9 @@ pub const fn links_of(calls: u32) -> u32 {
 pub const ROUTE_CALLS: usize = calls_over(LINKS as u32) as usize;
 pub const ROUTE_NUMBERS: usize = ROUTE_CALLS * CALL_WIDTH;
 
+/// The most links in a chain that goes around a gate desk. The room for its list is a route's all the same.
+pub const LINKS_AROUND: usize = LINKS - 1;
+
 /// The numbers of the largest grid: one for each desk and each desk.
 pub const GRID_NUMBERS: usize = DESKS * DESKS;
 

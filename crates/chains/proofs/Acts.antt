@@ -15,9 +15,9 @@ use Rattle.rules.specs.Links.{hasProcess, serves, linked}
 use Rattle.rules.specs.declared.Setup.{Setup}
 use Rattle.rules.proofs.Setups.{accepted-sizes, deskOf-lt}
 use Rattle.rules.proofs.Links.{ProcessAt, linked-iff}
-use Rattle.chains.specs.Chains.{processAt, fileFor, deskAt, Fewest}
+use Rattle.chains.specs.Chains.{Acting, linksAmong, processAt, fileFor, deskAt, Fewest}
 use Rattle.chains.proofs.Lowest.{lowest-iff, lowest-holds, lowest-below}
-use Rattle.chains.proofs.Chains.{AmongDesks, link-at}
+use Rattle.chains.proofs.Chains.{AmongDesks, link-at, linksAmong-iff, linksAmong-desks}
 use Rattle.chains.proofs.Shortest.{links-apart}
 
 module _ (s : Setup) (e : accepted s ≡ true) where
@@ -34,6 +34,10 @@ module _ (s : Setup) (e : accepted s ≡ true) where
   linked-among-most =
       let most = accepted-sizes s e .of-desks .high in
       record { ends = λ d u h. let (k, l) = linked-among .ends d u h in (omega arith, omega arith) }
+
+  -- the same is so of the links among the desks that act
+  pub acting-most : (acting : Acting) → AmongDesks mostDesks (linksAmong acting (linked s))
+  acting-most acting = linksAmong-desks acting linked-among-most
 
 -- "Each desk acts by its lowest process": one that exists and sits there, and none that sits there is lower
 pub record ActsBy (s : Setup) (d p : ℕ) : Type 0 where
@@ -89,19 +93,25 @@ shared-file s d e u v f k l h x y =
       reads = and-eq-true-iff (hasW (rightOf s u (classOf s f))) (hasR (rightOf s v (classOf s f))) .0 y .1;
     })
 
-module _ (s : Setup) {a b : ℕ} {xs : List ℕ} (h : Fewest (linked s) a b xs) where
-  -- no file serves two links of a chain with the fewest links
+module _ (s : Setup) (acting : Acting) {a b : ℕ} {xs : List ℕ} (h : Fewest (linksAmong acting (linked s)) a b xs) where
+  -- a link of a chain among desks that act: they do, and it is a link of the setup
+  link-of : (i : ℕ) → i < length xs
+      → let d = deskAt a xs i in let u = deskAt a xs (suc i) in (acting d ≡ true) × (acting u ≡ true) × (linked s d u ≡ true)
+  link-of i l = linksAmong-iff acting (linked s) _ _ .0 (link-at (linksAmong acting (linked s)) a b xs (h .chain) i l)
+
+  -- no file serves two links of a chain with the fewest links among desks that act: the first desk of the one would have a link to the
+  -- second of the other
   pub files-apart : (i j f : ℕ) → i < j → j < length xs → f < s .files
       → serves s (deskAt a xs i) (deskAt a xs (suc i)) f ≡ true → serves s (deskAt a xs j) (deskAt a xs (suc j)) f ≡ true → ⊥
   files-apart i j f l m k x y =
-      let link = link-at (linked s) a b xs (h .chain) in
-      links-apart h i (suc j) (omega arith) m (shared-file s _ _ _ _ f (link i (omega arith)) (link j m) k x y)
+      let (from, _, one) = link-of i (omega arith) in
+      let (_, to, other) = link-of j m in
+      links-apart h i (suc j) (omega arith) m (linksAmong-iff acting (linked s) _ _ .1 (from, to, shared-file s _ _ _ _ f one other k x y))
 
   -- so each link uses a file of its own
   pub files-used-apart : (i j : ℕ) → i < j → j < length xs
       → fileFor s (deskAt a xs i) (deskAt a xs (suc i)) ≢ fileFor s (deskAt a xs j) (deskAt a xs (suc j))
   files-used-apart i j l m q =
-      let link = link-at (linked s) a b xs (h .chain) in
-      let x = link-acts s _ _ (link i (omega arith)) .by in
-      let y = link-acts s _ _ (link j m) .by in
+      let x = link-acts s _ _ (link-of i (omega arith) .2) .by in
+      let y = link-acts s _ _ (link-of j m .2) .by in
       files-apart i j _ l m (y .exists) (rw q at (x .served)) (y .served)

@@ -2,14 +2,14 @@
 -- Assumes nothing.
 use Prim.Native.Nat.{ℕ, zero, suc, _+_, _-_, _<_, _≤_}
 use mathlib.Core.Path.{_≡_, refl}
-use mathlib.Core.Bool.{true, and-eq-true-iff}
+use mathlib.Core.Bool.{true, _&&_, and-eq-true-iff}
 use mathlib.Core.Logic.{_↔_, _≢_}
 use mathlib.Core.List.{List, [], _∷_, _++_}
 use native.Mathlib.Nat.{not-suc-le-zero, le-of-suc-le-suc}
 use native.Mathlib.Omega.{arith}
 use borrow.Author.Tests.{eqb-true, eq-eqb}
 use lib.ListN.{length, take, drop, length-append, length-take, length-drop}
-use Rattle.chains.specs.Chains.{Links, isChain, deskAt}
+use Rattle.chains.specs.Chains.{Links, Acting, linksAmong, isChain, deskAt}
 
 -- links run among the desks below n alone
 pub record AmongDesks (n : ℕ) (links : Links) : Type 0 where
@@ -57,6 +57,28 @@ module _ (links : Links) where
   link-at a b [] h i l = absurd (not-suc-le-zero l)
   link-at a b (d ∷ xs) h zero l = chain-first a b d xs .0 h .0
   link-at a b (d ∷ xs) h (suc i) l = link-at d b xs (chain-first a b d xs .0 h .1) i (le-of-suc-le-suc l)
+
+-- a chain of some links is one of any links that have them
+pub chain-mono : {links more : Links} → ((d u : ℕ) → links d u ≡ true → more d u ≡ true)
+    → (a b : ℕ) (xs : List ℕ) → isChain links a b xs ≡ true → isChain more a b xs ≡ true
+chain-mono {links} {more} has a b [] h = chain-none more a b .1 (chain-none links a b .0 h)
+chain-mono {links} {more} has a b (d ∷ xs) h =
+    let (l, r) = chain-first links a b d xs .0 h in chain-first more a b d xs .1 (has a d l, chain-mono has d b xs r)
+
+-- what is tested of a link among the desks that act
+pub linksAmong-iff : (acting : Acting) (links : Links) (d u : ℕ)
+    → (linksAmong acting links d u ≡ true) ↔ ((acting d ≡ true) × (acting u ≡ true) × (links d u ≡ true))
+linksAmong-iff acting links d u =
+    let both = and-eq-true-iff (acting d) (acting u) in
+    let all = and-eq-true-iff (acting d && acting u) (links d u) in
+    (λ h. let (k, l) = all .0 h in (both .0 k .0, both .0 k .1, l), λ h. all .1 (both .1 (h .0, h .1), h .2))
+
+-- it is one of the links, so it runs among the same desks
+pub linksAmong-own : (acting : Acting) (links : Links) (d u : ℕ) → linksAmong acting links d u ≡ true → links d u ≡ true
+linksAmong-own acting links d u h = linksAmong-iff acting links d u .0 h .2
+
+pub linksAmong-desks : {n : ℕ} {links : Links} (acting : Acting) → AmongDesks n links → AmongDesks n (linksAmong acting links)
+linksAmong-desks {links} acting within = record { ends = λ d u h. within .ends d u (linksAmong-own acting links d u h) }
 
 -- a chain that has a link runs over desks among which the links run
 pub chain-lt : {n : ℕ} {links : Links} → AmongDesks n links

@@ -8,3 +8,4 @@ pub mod Shortest
 pub mod Pigeons
 pub mod Enough
 pub mod Acts
+pub mod Avoids

@@ -1,8 +1,8 @@
 -- 01, "The route report": a desk's lowest process and a link's lowest file; over any links chains, how few links reach a desk, and the
--- chain that the report takes.
+-- chain that the report takes. 02, Req 04: the links among the desks that act.
 use Prim.Native.Nat.{ℕ, zero, suc, _-_, _≤_}
 use mathlib.Core.Path.{_≡_}
-use mathlib.Core.Bool.{Bool, true, false, _&&_, cond}
+use mathlib.Core.Bool.{Bool, true, false, not, _&&_, _||_, cond}
 use mathlib.Core.List.{List, [], _∷_}
 use lib.Dec.{ltb, eqb}
 use lib.ListN.{getD, length}
@@ -29,10 +29,29 @@ fileFor s d e = lowest (s .files) (serves s d e)
 abbrev pub Links : Type 0
 Links = ℕ → ℕ → Bool
 
+-- the desks that act, told by a test: every desk, or as in Req 04 "the desks other than C"
+abbrev pub Acting : Type 0
+Acting = ℕ → Bool
+
+abbrev pub everyDesk : Acting
+everyDesk d = true
+
+abbrev pub others : ℕ → Acting
+others c d = not (eqb d c)
+
+-- the links that run from a desk that acts to a desk that acts; of every desk they are all
+abbrev pub linksAmong : Acting → Links → Links
+linksAmong acting links d e = acting d && acting e && links d e
+
 -- "a chain of links from A to B", as the desks after A: it has as many links as it has desks
 unfoldable pub isChain : Links → ℕ → ℕ → List ℕ → Bool
 isChain links a b [] = eqb a b
 isChain links a b (d ∷ rest) = links a d && isChain links d b rest
+
+-- desk c is one of those that a chain lists
+unfoldable pub isOn : ℕ → List ℕ → Bool
+isOn c [] = false
+isOn c (d ∷ rest) = eqb d c || isOn c rest
 
 -- the desk at place i of a chain from a, which stands at place 0; for laws
 abbrev pub deskAt : ℕ → List ℕ → ℕ → ℕ

@@ -1,21 +1,23 @@
--- Laws of the list that shows a route: how many calls it has, and that each is four 32-bit numbers.
+-- Laws of the list that shows a route: how many calls it has, and that each is four 32-bit numbers and a desk's that acts.
 -- Assumes nothing.
 use Prim.Native.Nat.{ℕ, _+_, _<_, _≤_}
-use mathlib.Core.Path.{_≡_, refl, sym, subst}
+use mathlib.Core.Path.{_≡_, refl, sym, subst, _∙_}
 use mathlib.Core.Bool.{true}
 use mathlib.Core.Logic.{⊎-elim}
 use mathlib.Core.List.{List, [], _∷_, List·Memᴰ·not-nil, List·Memᴰ·cases-cons}
+use mathlib.Core.Option.{some}
 use native.Mathlib.Omega.{arith}
 use lib.ListN.{length}
 use Rattle.secrecy.specs.Sets.{Every}
 use Rattle.rules.specs.Setups.{accepted}
-use Rattle.rules.specs.Calls.{Is32}
-use Rattle.rules.specs.Links.{linked}
+use Rattle.rules.specs.Calls.{Is32, numbers}
+use Rattle.rules.specs.Links.{deskOfCall, linked}
 use Rattle.rules.specs.declared.Numbers.{Numbers}
 use Rattle.rules.specs.declared.Setup.{Setup}
 use Rattle.rules.proofs.Setups.{accepted-sizes}
-use Rattle.chains.specs.Chains.{processAt, fileFor, isChain, Fewest, mostLinks}
-use Rattle.chains.proofs.Chains.{chain-first}
+use Rattle.rules.proofs.Links.{deskOfCall-some}
+use Rattle.chains.specs.Chains.{Links, Acting, linksAmong, processAt, fileFor, isChain, Fewest, mostLinks}
+use Rattle.chains.proofs.Chains.{chain-first, linksAmong-iff}
 use Rattle.chains.proofs.Enough.{fewest-most}
 use Rattle.chains.proofs.Acts.{linked-among-most, ActsBy, link-acts}
 use Rattle.demand.specs.Routes.{onward, routeCalls, callsFor}
@@ -39,32 +41,57 @@ routeCalls-most s e {xs = []} h = omega arith
 routeCalls-most s e {a} {xs = d ∷ rest} h =
     omega (arith, routeCalls-length s a (d ∷ rest) (omega arith), fewest-most (linked-among-most s e) h)
 
--- no call, and one call more
-none-32 : Every Is32 []
-none-32 n m = absurd (List·Memᴰ·not-nil m)
+-- a list may hold the call: it is four 32-bit numbers, and belongs to a desk that acts or to none
+pub record Allowed (s : Setup) (acting : Acting) (n : Numbers) : Type 0 where
+  pub small : Is32 n
+  pub by : (d : ℕ) → deskOfCall s n ≡ some d → acting d ≡ true
 
-more-32 : {n : Numbers} {acts : List Numbers} → Is32 n → Every Is32 acts → Every Is32 (n ∷ acts)
-more-32 h k n m = ⊎-elim (λ q. subst Is32 (sym q) h) (k n) (List·Memᴰ·cases-cons m)
+abbrev pub OfActing : Setup → Acting → List Numbers → Type 0
+OfActing s acting acts = Every (Allowed s acting) acts
 
-module _ (s : Setup) (e : accepted s ≡ true) where
-  onward-32 : (b : ℕ) (rest : List ℕ) (d f : ℕ)
-      → isChain (linked s) d b rest ≡ true → ActsBy s d (processAt s d) → f < s .files → Every Is32 (onward s d f rest)
+module _ (s : Setup) (acting : Acting) where
+  -- no call, and one call more
+  none-allowed : OfActing s acting []
+  none-allowed n m = absurd (List·Memᴰ·not-nil m)
+
+  more-allowed : {n : Numbers} {acts : List Numbers} → Allowed s acting n → OfActing s acting acts → OfActing s acting (n ∷ acts)
+  more-allowed h k n m = ⊎-elim (λ q. subst (Allowed s acting) (sym q) h) (k n) (List·Memᴰ·cases-cons m)
+
+module _ (s : Setup) (acting : Acting) {d : ℕ} (acts : acting d ≡ true) (own : ActsBy s d (processAt s d)) where
+  -- one more of the process by which a desk that acts does
+  own-more : {code f x : ℕ} {calls : List Numbers} → Is32 (numbers code (processAt s d) f x) → OfActing s acting calls
+      → OfActing s acting (numbers code (processAt s d) f x ∷ calls)
+  own-more h = more-allowed s acting (record { small = h; by = λ u q. rw (sym (own .sits) ∙ deskOfCall-some s _ u .0 q .1) at acts })
+
+module _ (s : Setup) (e : accepted s ≡ true) (acting : Acting) where
+  abbrev links : Links
+  links = linksAmong acting (linked s)
+
+  onward-allowed : (b : ℕ) (rest : List ℕ) (d f : ℕ)
+      → isChain links d b rest ≡ true → acting d ≡ true → ActsBy s d (processAt s d) → f < s .files → OfActing s acting (onward s d f rest)
   unfolding onward
-  onward-32 b [] d f h own on = let sizes = accepted-sizes s e in more-32 (omega arith) (more-32 (omega arith) none-32)
-  onward-32 b (u ∷ rest) d f h own on =
+  onward-allowed b [] d f h acts own on =
       let sizes = accepted-sizes s e in
-      let (l, r) = chain-first (linked s) d b u rest .0 h in
-      let k = link-acts s d u l in
-      let others = onward-32 b rest u (fileFor s d u) r (k .to) (k .by .exists) in
-      more-32 (omega arith) (more-32 (omega arith) (more-32 (omega arith) (more-32 (omega arith) others)))
+      own-more s acting acts own (omega arith) (own-more s acting acts own (omega arith) (none-allowed s acting))
+  onward-allowed b (u ∷ rest) d f h acts own on =
+      let sizes = accepted-sizes s e in
+      let (l, r) = chain-first links d b u rest .0 h in
+      let (_, acts-too, is-link) = linksAmong-iff acting (linked s) d u .0 l in
+      let k = link-acts s d u is-link in
+      own-more s acting acts own (omega arith)
+      (own-more s acting acts own (omega arith)
+      (own-more s acting acts own (omega arith)
+      (own-more s acting acts own (omega arith) (onward-allowed b rest u (fileFor s d u) r acts-too (k .to) (k .by .exists)))))
 
-  -- each process and each file of the list exists, so every call in it is four 32-bit numbers
-  pub routeCalls-32 : (a b : ℕ) (xs : List ℕ) → isChain (linked s) a b xs ≡ true → Every Is32 (routeCalls s a xs)
+  -- each process of the list exists and sits at a desk of the chain, and each file exists: so a list may hold every call in it
+  pub routeCalls-allowed : (a b : ℕ) (xs : List ℕ) → isChain links a b xs ≡ true → OfActing s acting (routeCalls s a xs)
   unfolding routeCalls
-  routeCalls-32 a b [] h = none-32
-  routeCalls-32 a b (d ∷ rest) h =
+  routeCalls-allowed a b [] h = none-allowed s acting
+  routeCalls-allowed a b (d ∷ rest) h =
       let sizes = accepted-sizes s e in
-      let (l, r) = chain-first (linked s) a b d rest .0 h in
-      let k = link-acts s a d l in
-      let others = onward-32 b rest d (fileFor s a d) r (k .to) (k .by .exists) in
-      more-32 (omega arith) (more-32 (omega arith) (more-32 (omega arith) others))
+      let (l, r) = chain-first links a b d rest .0 h in
+      let (acts, acts-too, is-link) = linksAmong-iff acting (linked s) a d .0 l in
+      let k = link-acts s a d is-link in
+      own-more s acting acts (k .from) (omega arith)
+      (own-more s acting acts (k .from) (omega arith)
+      (own-more s acting acts (k .from) (omega arith) (onward-allowed b rest d (fileFor s a d) r acts-too (k .to) (k .by .exists))))

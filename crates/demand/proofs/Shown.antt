@@ -20,10 +20,10 @@ use Rattle.rules.specs.declared.Answer.the-variants.{Nothing}
 use Rattle.rules.proofs.Setups.{accepted-sizes}
 use Rattle.rules.proofs.Stores.{fresh-content}
 use Rattle.views.specs.Machine.{machine}
-use Rattle.chains.specs.Chains.{processAt, fileFor, isChain, deskAt, Fewest}
-use Rattle.chains.proofs.Chains.{chain-none, chain-first}
+use Rattle.chains.specs.Chains.{Links, Acting, linksAmong, processAt, fileFor, isChain, deskAt, Fewest}
+use Rattle.chains.proofs.Chains.{chain-none, chain-first, linksAmong-own, chain-mono}
 use Rattle.chains.proofs.Shortest.{fewest-rest, fewest-apart, desks-apart}
-use Rattle.chains.proofs.Acts.{ActsBy, link-acts, files-used-apart}
+use Rattle.chains.proofs.Acts.{ActsBy, LinkActs, link-acts, files-used-apart}
 use Rattle.demand.specs.Routes.{onward, routeCalls}
 use Rattle.demand.specs.Heard.{without, Shows}
 use Rattle.demand.proofs.Goes.{open-answers}
@@ -39,34 +39,43 @@ module _ (s : Setup) where
   unfolding deskOfCall
   others-call d {u} {p} at h code f x = rw (lt-ltb p (s .processes) (at .exists), at .sits) (ne-eqb d u h)
 
-module _ (s : Setup) (e : accepted s ≡ true) (b : ℕ) where
+module _ (s : Setup) (acting : Acting) where
+  -- what the first link of a chain among the desks that act has
+  first-acts : {b c d : ℕ} {rest : List ℕ} → Fewest (linksAmong acting (linked s)) c b (d ∷ rest) → LinkActs s c d
+  first-acts {b} {c} {d} {rest} h =
+      let links = linksAmong acting (linked s) in
+      link-acts s c d (linksAmong-own acting (linked s) c d (chain-first links c b d rest .0 (h .chain) .0))
+
+module _ (s : Setup) (e : accepted s ≡ true) (acting : Acting) (b : ℕ) where
+  abbrev links : Links
+  links = linksAmong acting (linked s)
+
   -- from a stage on, the desk at the end hears what the file holds that serves the stage's link
-  onward-heard : (rest : List ℕ) (c d : ℕ) {m : Store} → Fewest (linked s) c b (d ∷ rest) → Stage m
+  onward-heard : (rest : List ℕ) (c d : ℕ) {m : Store} → Fewest links c b (d ∷ rest) → Stage m
       → answersTo (machine s) b m (onward s d (fileFor s c d) rest) ≡ Nothing ∷ readOf (contentOf m (fileFor s c d)) ∷ []
   unfolding onward answersWhere
   onward-heard [] c d {m} h at =
-      let (l, r) = chain-first (linked s) c b d [] .0 (h .chain) in
-      let k = link-acts s c d l in
+      let k = first-acts s acting h in
       simp (
-        own-call s d (k .to) (chain-none (linked s) d b .0 r),
+        own-call s d (k .to) (chain-none links d b .0 (fewest-rest h .chain)),
         open-answers s m (processAt s d) (fileFor s c d) (k .to .exists) (k .by .exists),
         read-out s e at c d k,
       )
   onward-heard (u ∷ rest) c d {m} h at =
       let onto = fewest-rest h in
-      let j = link-acts s c d (chain-first (linked s) c b d (u ∷ rest) .0 (h .chain) .0) in
-      let k = link-acts s d u (chain-first (linked s) d b u rest .0 (onto .chain) .0) in
+      let j = first-acts s acting h in
+      let k = first-acts s acting onto in
       let f = fileFor s c d in
       let g = fileFor s d u in
       let copy = copiedTo (contentOf m g) (contentOf m f) in
       simp (
         others-call s d (k .from) (fewest-apart onto),
-        handed s e at c d u j k (λ q. files-used-apart s h 0 1 (omega arith) (omega arith) (sym q)),
+        handed s e at c d u j k (λ q. files-used-apart s acting h 0 1 (omega arith) (omega arith) (sym q)),
         onward-heard rest d u onto (content-stage (open-stage at f (processAt s d)) g copy),
         put-content s e at g copy (k .by .exists),
       )
 
-module _ (s : Setup) (a b : ℕ) where
+module _ (s : Setup) (acting : Acting) (a b : ℕ) where
   -- from a desk on that desk a does not come after, no call is struck out
   onward-kept : (rest : List ℕ) (d f : ℕ) → isChain (linked s) d b rest ≡ true → ActsBy s d (processAt s d)
       → ((i : ℕ) → i ≤ length rest → deskAt d rest i ≢ a) → without s a (onward s d f rest) ≡ onward s d f rest
@@ -80,22 +89,24 @@ module _ (s : Setup) (a b : ℕ) where
       )
 
   -- without desk a's calls the first three are gone, and no other: a chain with the fewest links does not come back to a
-  route-without : (d : ℕ) (rest : List ℕ) → Fewest (linked s) a b (d ∷ rest) → without s a (routeCalls s a (d ∷ rest)) ≡ onward s d (fileFor s a d) rest
+  route-without : (d : ℕ) (rest : List ℕ) → Fewest (linksAmong acting (linked s)) a b (d ∷ rest)
+      → without s a (routeCalls s a (d ∷ rest)) ≡ onward s d (fileFor s a d) rest
   unfolding routeCalls strike
   route-without d rest h =
-      let (l, r) = chain-first (linked s) a b d rest .0 (h .chain) in
-      let k = link-acts s a d l in
+      let k = first-acts s acting h in
+      let chain = chain-mono (linksAmong-own acting (linked s)) d b rest (fewest-rest h .chain) in
       simp (
         own-call s a (k .from) refl,
-        onward-kept rest d (fileFor s a d) r (k .to) (λ i n q. desks-apart h 0 (suc i) (omega arith) (omega arith) (sym q)),
+        onward-kept rest d (fileFor s a d) chain (k .to) (λ i n q. desks-apart h 0 (suc i) (omega arith) (omega arith) (sym q)),
       )
 
--- the list along a chain with the fewest links shows the route
-pub route-shows : (s : Setup) → accepted s ≡ true → {a b : ℕ} {xs : List ℕ} → a ≢ b → Fewest (linked s) a b xs → Shows s a b (routeCalls s a xs)
+-- the list along a chain with the fewest links among the desks that act shows the route
+pub route-shows : (s : Setup) → accepted s ≡ true → (acting : Acting) {a b : ℕ} {xs : List ℕ} → a ≢ b → Fewest (linksAmong acting (linked s)) a b xs
+    → Shows s a b (routeCalls s a xs)
 unfolding routeCalls answersWhere
-route-shows s e {a} {b} {xs = []} other h = absurd (other (chain-none (linked s) a b .0 (h .chain)))
-route-shows s e {a} {b} {xs = d ∷ rest} other h =
-    let k = link-acts s a d (chain-first (linked s) a b d rest .0 (h .chain) .0) in
+route-shows s e acting {a} {b} {xs = []} other h = absurd (other (chain-none (linksAmong acting (linked s)) a b .0 (h .chain)))
+route-shows s e acting {a} {b} {xs = d ∷ rest} other h =
+    let k = first-acts s acting h in
     let f = fileFor s a d in
     let one = writtenTo (contentOf freshStore f) 1 in
     record {
@@ -103,13 +114,13 @@ route-shows s e {a} {b} {xs = d ∷ rest} other h =
           simp (
             others-call s a (k .from) other,
             wrote s e fresh-stage a d 1 k,
-            onward-heard s e b rest a d h (content-stage fresh-stage f one),
+            onward-heard s e acting b rest a d h (content-stage fresh-stage f one),
             put-content s e fresh-stage f one (k .by .exists),
           );
       without-them =
           simp (
-            route-without s a b d rest h,
-            onward-heard s e b rest a d h fresh-stage,
+            route-without s acting a b d rest h,
+            onward-heard s e acting b rest a d h fresh-stage,
             fresh-content f (omega (arith, accepted-sizes s e .of-files .high, k .by .exists)),
           );
     }

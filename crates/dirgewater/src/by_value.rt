@@ -3,6 +3,8 @@ use crate::Numbered;
 use crate::Outcome;
 use crate::as_numbers;
 use crate::call_numbered;
+use gates::GateAnswer;
+use gates::gate::gate;
 use grids::GridAnswer;
 use grids::grid::grid;
 use judging::accepting::accept;
@@ -15,9 +17,11 @@ use routes::report::report;
 use rules::GivenSetup;
 use rules::GivenStore;
 use rules::KIND_DONE;
+use rules::KIND_GUARDED;
 use rules::KIND_NO_ROUTE;
 use rules::KIND_REFUSED;
 use rules::KIND_ROUTE;
+use rules::KIND_UNGUARDED;
 use rules::Setup;
 use rules::Store;
 ghost use mathlib.Core.Path.{_≡_};
@@ -31,6 +35,8 @@ ghost use Rattle.lists.specs.Lists.{listed, answersAfter, listNumbersOf};
 ghost use Rattle.routes.specs.Reports.{routed, routeNumbersOf};
 ghost use Rattle.routes.specs.Reports as route;
 ghost use Rattle.routes.specs.Demand3.{Demand3};
+ghost use Rattle.gates.specs.Gates.{gated, gateNumbersOf, GateTells};
+ghost use Rattle.gates.specs.Gates as gate;
 ghost use Rattle.grids.specs.Grids.{gridded, gridNumbersOf, GridTells};
 ghost use Rattle.grids.specs.Grids as grid;
 
@@ -121,6 +127,28 @@ pub extern "C" fn dw_route(setup: Setup, a: u32, b: u32, room: &mut [u32]) -> Nu
 {
     let answer = report(setup, a, b, room);
     route_numbers_of(answer)
+}
+
+fn gate_numbers_of(answer: GateAnswer) -> Numbered
+    ensures { λ r. ⌜ (r .kind ≡ gateNumbersOf answer .0) × (r .value ≡ gateNumbersOf answer .1) ⌝ }
+{
+    match answer {
+        GateAnswer::Guarded => as_numbers(KIND_GUARDED, 0),
+        GateAnswer::Unguarded(calls) => as_numbers(KIND_UNGUARDED, calls),
+        GateAnswer::Refused(refusal) => as_numbers(KIND_REFUSED, refusal),
+    }
+}
+
+// Entry: whether all that desk b can hear of desk a passes the gate desk, and else the list of calls that goes around it.
+#[no_mangle]
+pub extern "C" fn dw_gate(setup: Setup, a: u32, b: u32, c: u32, room: &mut [u32]) -> Numbered
+    ensures { λ r. let n = gateNumbersOf (gated setup a b c (length (now (room .entry)))) in
+        ⌜ (r .kind ≡ n .0) × (r .value ≡ n .1) ⌝ }
+    ensures room { λ _. ⌜ now (room .exit) ≡ gate.roomAfter setup a b c (now (room .entry)) ⌝ }
+    ensures guarded { λ _. ⌜ GateTells setup a b c (gated setup a b c (length (now (room .entry)))) (now (room .exit)) ⌝ }
+{
+    let answer = gate(setup, a, b, c, room);
+    gate_numbers_of(answer)
 }
 
 fn grid_numbers_of(answer: GridAnswer) -> Numbered

@@ -7,7 +7,7 @@ use mathlib.Core.Logic.{_↔_, _≢_, ⊎-elim}
 use mathlib.Core.List.{List, []}
 use native.Mathlib.Nat.{eq-or-lt-of-le}
 use native.Mathlib.Omega.{arith}
-use borrow.Author.Tests.{ltb-true, ltb-false, eqb-true, eqb-false, lt-ltb, le-ltb, lt-leb, ne-eqb}
+use borrow.Author.Tests.{ltb-true, ltb-false, eqb-true, eqb-false, lt-ltb, le-ltb}
 use lib.Dec.{ltb, eqb}
 use lib.ListN.{length, getD, drop, List·getD-append}
 use Rattle.rules.specs.Sizes.{mostDesks, table}
@@ -28,7 +28,7 @@ use Rattle.demand.proofs.Exactly.{exactly}
 use Rattle.routes.specs.Reports.{mostRouteNumbers, routeRefusal, routed, routeNumbersOf}
 use Rattle.routes.specs.declared.RouteAnswer.{RouteAnswer}
 use Rattle.routes.specs.declared.RouteAnswer.the-variants.{NoRoute, Route}
-use Rattle.routes.proofs.Reports.{routed-none, routed-shown}
+use Rattle.routes.proofs.Reports.{sound-unrefused, routed-none, routed-shown}
 use Rattle.routes.proofs.Demands.{no-route-exactly}
 use Rattle.grids.specs.Grids.{gridLength, gridRefusal, gridNumber, gridPlace, gridOver, gridded, roomAfter, NumberTells, GridTells}
 use Rattle.grids.proofs.Squares.{row-of, column-of, place-lt}
@@ -102,8 +102,7 @@ module _ (s : Setup) (run : List ℕ) (unrefused : gridRefusal s (length run) �
     module _ (room : List ℕ) (spacious : mostRouteNumbers ≤ length room) where
       -- the report on the two desks is not refused
       reported : routeRefusal s a b (length room) ≡ 0
-      unfolding routeRefusal
-      reported = simp (sound, lt-leb (s .desks) a from, lt-leb (s .desks) b onto, ne-eqb a b apart, le-ltb (length room) mostRouteNumbers spacious)
+      reported = sound-unrefused (record { setup = sound; from = from; onto = onto; apart = apart; spacious = spacious })
 
       -- 0 exactly where the report answers "no route"
       pub no-route-iff : (entryFor s run a b ≡ 0) ↔ (routed s a b (length room) ≡ NoRoute)

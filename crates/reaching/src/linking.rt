@@ -1,4 +1,5 @@
 // The table of links, desks by desks: made once a report or a grid, so that whether a link runs is asked of it; which file serves it, of the setup.
+// And a desk is taken out of it.
 use judging::rights::has_r;
 use judging::rights::has_w;
 use rules::CLASSES;
@@ -11,7 +12,8 @@ ghost use lib.ListN.{length, getD, replicate};
 ghost use Rattle.rules.specs.Sizes.{mostDesks, mostClasses, mostRights};
 ghost use Rattle.rules.specs.Setups.{accepted};
 ghost use Rattle.rules.specs.Links.{linked};
-ghost use Rattle.reaching.specs.Tables.{mark, marksOf, isServed, linkedBy, pairsOf, linksIn};
+ghost use Rattle.chains.specs.Chains.{others, linksAmong};
+ghost use Rattle.reaching.specs.Tables.{mark, marksOf, isServed, linkedBy, mostPairs, pairsOf, linksIn};
 
 // A mark for each desk and desk.
 pub const PAIRS: usize = DESKS * DESKS;
@@ -81,4 +83,17 @@ pub fn links_of(setup: Setup) -> [u8; PAIRS]
     mark_each(&mut seats, &setup.desk, setup.processes as usize);
     mark_each(&mut filed, &setup.class, setup.files as usize);
     pairs_of(&setup.rights, &seats, &filed)
+}
+
+// Takes desk c out: of the links none runs from it any more, and none to it.
+pub fn take_out(links: &mut [u8], c: usize)
+    requires { ⌜ (length (now links) ≡ mostPairs) × (c < mostDesks) ⌝ }
+    ensures { λ _. ⌜ linksIn (now (links .exit)) ≡ linksAmong (others c) (linksIn (now (links .entry))) ⌝ }
+{
+    let mut d = 0;
+    while d < DESKS {
+        links[c * DESKS + d] = 0;
+        links[d * DESKS + c] = 0;
+        d += 1;
+    }
 }

@@ -9,7 +9,7 @@ use Rattle.rules.specs.Refusals.{Refusal, _gives_, firstOf, refusal15}
 use Rattle.rules.specs.Entries.{unless}
 use Rattle.rules.specs.Links.{linked}
 use Rattle.rules.specs.declared.Setup.{Setup}
-use Rattle.chains.specs.Chains.{mostLinks, far, fewestLinks, chainOf}
+use Rattle.chains.specs.Chains.{Links, mostLinks, far, fewestLinks, chainOf}
 use Rattle.demand.specs.Routes.{routeCalls, callsFor}
 use Rattle.routes.specs.declared.RouteAnswer.{RouteAnswer}
 use Rattle.routes.specs.declared.RouteAnswer.the-variants.{NoRoute, Route, Refused}
@@ -44,13 +44,16 @@ routed s a b room =
     let k = fewestLinks (linked s) a b in
     unless r (cond (ltb k far) (Route (callsFor k)) NoRoute) (Refused r)
 
--- the list fills the front of the room, and what lies past it keeps its values; "No route" and a refusal write nothing
+-- the list along the chain that is taken by some links fills the front of the room, and what lies past it keeps its values; where there is
+-- no chain nothing is written
+unfoldable pub withRoute : Setup → Links → ℕ → ℕ → List ℕ → List ℕ
+withRoute s links a b room =
+    let k = fewestLinks links a b in
+    cond (ltb k far) (inQuads (routeCalls s a (chainOf links a b)) ++ drop (callsFor k * callWidth) room) room
+
+-- so "No route" writes nothing; nor does a refusal
 unfoldable pub roomAfter : Setup → ℕ → ℕ → List ℕ → List ℕ
-roomAfter s a b room =
-    let k = fewestLinks (linked s) a b in
-    unless (routeRefusal s a b (length room))
-    (cond (ltb k far) (inQuads (routeCalls s a (chainOf (linked s) a b)) ++ drop (callsFor k * callWidth) room) room)
-    room
+roomAfter s a b room = unless (routeRefusal s a b (length room)) (withRoute s (linked s) a b room) room
 
 -- the answer as two numbers: 0 and 0 for no route, 1 and the number of calls, or 01's 4 and the refusal
 abbrev pub routeNumbersOf : RouteAnswer → ℕ × ℕ

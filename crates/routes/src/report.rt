@@ -1,14 +1,9 @@
 // The route report: its refusals and its entry.
-use crate::CALLS_AT_END;
-use crate::CALLS_OF_LINK;
 use crate::ROUTE_NUMBERS;
 use crate::RouteAnswer;
-use crate::writing::write_route;
+use crate::showing::show_route;
 use judging::fitting::accepted;
 use reaching::linking::links_of;
-use reaching::nearing::FAR;
-use reaching::nearing::LINKS;
-use reaching::nearing::reach;
 use rules::NO_SUCH_ROUTE_DESK;
 use rules::NOT_ACCEPTED;
 use rules::SAME_DESK;
@@ -52,15 +47,10 @@ pub fn report(setup: Setup, a: u32, b: u32, room: &mut [u32]) -> RouteAnswer
     if refusal != 0 {
         return RouteAnswer::Refused(refusal);
     }
-    let from = a as usize;
-    let onto = b as usize;
     let links = links_of(setup);
-    let to = reach(&links, onto, LINKS);
-    let count = to[from];
-    if FAR <= count {
+    let calls = show_route(setup, &links, a as usize, b as usize, room);
+    if calls == 0 {
         return RouteAnswer::NoRoute;
     }
-    write_route(setup, &links, &to, from, room);
-    let calls = CALLS_OF_LINK * count as usize + CALLS_AT_END;
-    RouteAnswer::Route(calls as u32)
+    RouteAnswer::Route(calls)
 }

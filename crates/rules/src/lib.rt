@@ -71,12 +71,16 @@ pub const KIND_NO: u32 = 3;
 
 pub const KIND_REFUSED: u32 = 4;
 
-// The kind of a list that was run, a text that was read or a grid that was filled, and the kinds of a route report.
+// The kind of a list that was run, a text that was read or a grid that was filled, and the kinds of a route report and of a gate report.
 pub const KIND_DONE: u32 = 0;
 
 pub const KIND_NO_ROUTE: u32 = 0;
 
 pub const KIND_ROUTE: u32 = 1;
+
+pub const KIND_GUARDED: u32 = 0;
+
+pub const KIND_UNGUARDED: u32 = 1;
 
 // The codes of the calls, from the first to the last.
 pub const FIRST_CODE: u32 = CODE_OF_READ;

@@ -2,6 +2,7 @@
 
 use crate::reply::{Reply, OUTPUT};
 use second::call::{call_by_value, call_in_place, Call};
+use second::gate::{gate, Three};
 use second::grid::grid;
 use second::list::run;
 use second::print::sheets;
@@ -41,6 +42,11 @@ pub enum Case {
         setup: Box<Setup>,
         room: Vec<u32>,
     },
+    Gate {
+        setup: Box<Setup>,
+        three: Three,
+        room: Vec<u32>,
+    },
     /// The only one that goes to the program, and not to the driver.
     Sheets(Vec<u8>),
 }
@@ -57,6 +63,7 @@ mod kind {
     pub const READ_ALONE: u32 = 8;
     pub const READ_WITH_CALLS: u32 = 9;
     pub const GRID: u32 = 10;
+    pub const GATE: u32 = 11;
 }
 
 /// The answer of a list or a text as a whole, or of a grid, that is refused has this kind.
@@ -129,6 +136,10 @@ impl Case {
             Case::Grid { setup, room } => {
                 (kind::GRID, start.setup(setup).number(room.len()).numbers(room))
             }
+            Case::Gate { setup, three: Three { a, b, gate }, room } => {
+                let desks = start.setup(setup).numbers(&[*a, *b, *gate]);
+                (kind::GATE, desks.number(room.len()).numbers(room))
+            }
             Case::Sheets(text) => (0, start.bytes(text)),
         }
     }
@@ -161,13 +172,14 @@ impl Case {
                 due_list(rules, (setup, store), calls, answers)
             }
             Case::Route { setup, a, b, room } => {
-                let mut lent = room.clone();
-                let answer = report(rules, setup, *a, *b, &mut lent);
-                Reply::default().numbers("report", &answer.numbers()).lent_words("room", &lent)
+                due_report(room, |lent| report(rules, setup, *a, *b, lent).numbers())
             }
             Case::ReadAlone(text) => due_alone(rules, text),
             Case::ReadWithCalls { text, room } => due_with_calls(rules, text, room),
             Case::Grid { setup, room } => due_grid(rules, setup, room),
+            Case::Gate { setup, three, room } => {
+                due_report(room, |lent| gate(rules, setup, *three, lent).numbers())
+            }
             Case::Sheets(text) => Reply::default().bytes(OUTPUT, sheets(rules, text).as_bytes()),
         }
     }
@@ -213,6 +225,13 @@ fn due_list(rules: Rules, held: (&Setup, &Store), calls: &[u32], answers: &[u32]
         .store(&next)
         .lent_words("calls", calls)
         .lent_words("answers", &lent)
+}
+
+/// What is reported of desks, and what that leaves of the room.
+fn due_report(room: &[u32], report: impl FnOnce(&mut [u32]) -> [u32; ANSWER_WIDTH]) -> Reply {
+    let mut lent = room.to_vec();
+    let answer = report(&mut lent);
+    Reply::default().numbers("report", &answer).lent_words("room", &lent)
 }
 
 /// What becomes of a text: its answer, the offset, the setup.

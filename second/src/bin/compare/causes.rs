@@ -2,6 +2,7 @@
 
 use crate::setups::MOST;
 use second::call::{code, Call};
+use second::gate::Three;
 use second::refusal::Refusal;
 use second::setup::{right_at, Setup, SetupBytes, RW};
 use second::sizes::{CLASSES, DESKS, FILES, PROCESSES, ROUTE_NUMBERS};
@@ -204,6 +205,16 @@ pub fn all_of_route(setup: &Setup, a: u32, b: u32, room: usize) -> Vec<Refusal> 
     that_apply(&[
         (a.max(b) >= setup.desks, Refusal::NoSuchRouteDesk),
         (a == b, Refusal::SameRouteDesks),
+        (room < ROUTE_NUMBERS, Refusal::RoomTooShort),
+    ])
+}
+
+/// Every refusal of a gate over a sound setup that applies, in order.
+pub fn all_of_gate(setup: &Setup, three: Three, room: usize) -> Vec<Refusal> {
+    let Three { a, b, gate } = three;
+    that_apply(&[
+        (a.max(b).max(gate) >= setup.desks, Refusal::NoSuchRouteDesk),
+        (a == b || a == gate || b == gate, Refusal::SameRouteDesks),
         (room < ROUTE_NUMBERS, Refusal::RoomTooShort),
     ])
 }

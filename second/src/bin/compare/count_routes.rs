@@ -11,7 +11,7 @@ use second::setup::Setup;
 use second::sizes::{LINKS, ROUTE_NUMBERS};
 
 /// A choice of the report matters where the report with that choice turned is another.
-const CHOICES: [(Turn, &str); 6] = [
+pub const CHOICES: [(Turn, &str); 6] = [
     (Turn::HighestFile, "the lowest file decides"),
     (Turn::HighestProcess, "the lowest process decides"),
     (Turn::LargestDesk, "the smallest desk decides"),

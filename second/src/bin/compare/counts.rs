@@ -4,10 +4,12 @@ use crate::case::Case;
 use crate::causes::{self, COUNT_CAUSES, SETUP_CAUSES, SLICE_CAUSES, STORE_CAUSES};
 use crate::count_calls;
 use crate::count_cells;
+use crate::count_gates;
 use crate::count_grids;
 use crate::count_routes;
 use crate::count_texts;
 use crate::tally::Table;
+use second::call::Call;
 use second::refusal::Refusal;
 use second::setup::{Setup, SetupBytes};
 use second::sizes::{ANSWER_WIDTH, CALLS, CALL_WIDTH, LIST_NUMBERS};
@@ -22,6 +24,7 @@ pub mod entry {
     pub const LIST: usize = 4;
     pub const ROUTE: usize = 5;
     pub const GRID: usize = 6;
+    pub const GATE: usize = 7;
 }
 
 pub struct Counts {
@@ -36,9 +39,11 @@ pub struct Counts {
     pub routes: Table,
     pub texts: Table,
     pub grids: Table,
+    pub gates: Table,
 }
 
-const ENTRIES: [&str; 7] = ["fresh", "judge", "by value", "in place", "list", "route", "grid"];
+const ENTRIES: [&str; 8] =
+    ["fresh", "judge", "by value", "in place", "list", "route", "grid", "gate"];
 
 const ALIKE: &str = "fits, not fresh, all files written or none";
 const MIXED: &str = "fits, not fresh, some files written and some not";
@@ -52,6 +57,8 @@ pub const GRIDS_TOTAL: &str = "grids through the library";
 pub const LINKED_TOTAL: &str = "links in a grid, held to the library's own report";
 pub const UNLINKED_TOTAL: &str = "no route in a grid, held to the library's own report";
 pub const SHOWN_TOTAL: &str = "lists that a report wrote, run with A's calls and without";
+pub const GATES_TOTAL: &str = "gates through the library";
+pub const AROUND_TOTAL: &str = "lists around a gate, run so too and searched for C's calls";
 
 impl Counts {
     pub fn new() -> Counts {
@@ -67,10 +74,11 @@ impl Counts {
             routes: count_routes::routes(),
             texts: count_texts::texts(),
             grids: count_grids::grids(),
+            gates: count_gates::gates(),
         }
     }
 
-    pub fn tables(&self) -> [&Table; 11] {
+    pub fn tables(&self) -> [&Table; 12] {
         [
             &self.totals,
             &self.accepts,
@@ -83,6 +91,7 @@ impl Counts {
             &self.routes,
             &self.texts,
             &self.grids,
+            &self.gates,
         ]
     }
 
@@ -93,14 +102,10 @@ impl Counts {
             Case::Fresh(setup) => self.meet_setup(setup, entry::FRESH),
             Case::Judge(setup, store) => self.meet_held(setup, store, entry::JUDGE),
             Case::Call(setup, store, call) => {
-                self.totals.met(CALLS_TOTAL, 0);
-                self.meet_held(setup, store, entry::CALL);
-                count_calls::meet(self, (setup, store), *call, count_calls::BY_VALUE);
+                self.meet_call((setup, store), *call, entry::CALL, count_calls::BY_VALUE);
             }
             Case::CallInPlace(setup, store, call) => {
-                self.totals.met(CALLS_TOTAL, 0);
-                self.meet_held(setup, store, entry::CALL_IN_PLACE);
-                count_calls::meet(self, (setup, store), *call, count_calls::IN_PLACE);
+                self.meet_call((setup, store), *call, entry::CALL_IN_PLACE, count_calls::IN_PLACE);
             }
             Case::List { setup, store, calls, answers } => {
                 self.meet_held(setup, store, entry::LIST);
@@ -117,6 +122,11 @@ impl Counts {
                 self.totals.met(GRIDS_TOTAL, 0);
                 self.meet_setup(setup, entry::GRID);
                 count_grids::meet(self, setup, room.len());
+            }
+            Case::Gate { setup, three, room } => {
+                self.totals.met(GATES_TOTAL, 0);
+                self.meet_setup(setup, entry::GATE);
+                count_gates::meet(self, setup, *three, room.len());
             }
             Case::Sheets(text) => {
                 self.totals.met(TEXTS_TOTAL, 0);
@@ -180,6 +190,12 @@ impl Counts {
         }
     }
 
+    fn meet_call(&mut self, held: (&Setup, &Store), call: Call, column: usize, way: usize) {
+        self.totals.met(CALLS_TOTAL, 0);
+        self.meet_held(held.0, held.1, column);
+        count_calls::meet(self, held, call, way);
+    }
+
     fn meet_list(&mut self, held: (&Setup, &Store), calls: &[u32], answers: usize) {
         let (length, enough) = (calls.len(), calls.len() / CALL_WIDTH * ANSWER_WIDTH);
         let wrong = length % CALL_WIDTH > 0 || length > LIST_NUMBERS;
@@ -228,6 +244,8 @@ fn totals() -> Table {
     table.row(GRIDS_TOTAL, 2_000);
     table.row(LINKED_TOTAL, 600);
     table.row(UNLINKED_TOTAL, 600);
+    table.row(GATES_TOTAL, 4_000);
+    table.row(AROUND_TOTAL, 700);
     table
 }
 

@@ -22,15 +22,25 @@ impl Eyes {
     }
 
     /// Looks at cases for which the first program gave what is due: a turn is found where it gives another.
-    /// A turn of the grid is looked for in grids alone, since to do all else over for it takes long.
     pub fn look(&mut self, family: &'static str, cases: &[Case], found: &[Found]) {
         for sight in self.sights.iter_mut().filter(|sight| sight.found.is_none()) {
             let rules = Rules { turn: sight.turn };
-            let shows = |case: &Case| !sight.turn.is_of_grid() || matches!(case, Case::Grid { .. });
-            let other = |(case, found): (&Case, &Found)| shows(case) && !case.due(rules).is(found);
+            let other = |(case, found): (&Case, &Found)| {
+                may_show(case, sight.turn) && !case.due(rules).is(found)
+            };
             let place = cases.iter().zip(found).position(other);
             sight.found = place.map(|place| (family, sight.looked + place + 1));
             sight.looked += cases.len();
         }
+    }
+}
+
+/// A turn of the grid is looked for in grids alone, and one of the gate in gates, since to do all else over for it
+/// takes long.
+fn may_show(case: &Case, turn: Turn) -> bool {
+    match (turn.is_of_grid(), turn.is_of_gate()) {
+        (true, _) => matches!(case, Case::Grid { .. }),
+        (_, true) => matches!(case, Case::Gate { .. }),
+        _ => true,
     }
 }

@@ -3,6 +3,7 @@
 use crate::calls;
 use crate::case::Case;
 use crate::cells;
+use crate::gates;
 use crate::grids;
 use crate::random::Random;
 use crate::routes;
@@ -29,7 +30,7 @@ pub const ROUTES: &str = "routes";
 /// A setup, a store of it, and a call.
 pub type Held = (Box<Setup>, Box<Store>, Call);
 
-pub const FAMILIES: [Family; 11] = [
+pub const FAMILIES: [Family; 12] = [
     Family {
         name: "setup bytes",
         hand_made: accepts,
@@ -56,6 +57,7 @@ pub const FAMILIES: [Family; 11] = [
         make: |random| Case::Sheets(texts::any(random, true)),
     },
     Family { name: "grids", hand_made: grids::by_hand, count: 2_000, make: grids::case },
+    Family { name: "gates", hand_made: gates::by_hand, count: 5_000, make: gates::case },
 ];
 
 /// A setup: sound most often, now and then forged.

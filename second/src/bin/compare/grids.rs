@@ -31,7 +31,7 @@ fn with_run(setup: &Setup, length: usize) -> Case {
 }
 
 /// A setup whose desk, class, process and file of one number belong together, without rights.
-fn bare(desks: usize) -> Setup {
+pub fn bare(desks: usize) -> Setup {
     let count = desks as u32;
     let mut setup =
         Setup { desks: count, classes: count, processes: count, files: count, ..Setup::ZERO };
@@ -43,7 +43,7 @@ fn bare(desks: usize) -> Setup {
 }
 
 /// Each desk has a link to the next, by the class of its own number; in a ring the last to the first.
-fn chained(desks: usize, ring: bool) -> Setup {
+pub fn chained(desks: usize, ring: bool) -> Setup {
     let mut setup = bare(desks);
     for desk in 0..if ring { desks } else { desks - 1 } {
         setup.rights[right_at(desk, desk)] |= W;
@@ -59,14 +59,14 @@ fn grant_all(setup: &mut Setup) {
     }
 }
 
-fn full(desks: usize) -> Setup {
+pub fn full(desks: usize) -> Setup {
     let mut setup = bare(desks);
     grant_all(&mut setup);
     setup
 }
 
 /// A line whose middle desk has no process, and one whose middle class has no file.
-fn broken(desks: usize) -> [Setup; 2] {
+pub fn broken(desks: usize) -> [Setup; 2] {
     let middle = desks / 2;
     let [mut unseated, mut unfiled] = [chained(desks, false), chained(desks, false)];
     unseated.desk_of[middle] = 0;

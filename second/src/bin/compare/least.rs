@@ -54,7 +54,7 @@ impl Cutter<'_> {
                 let case = self.drop_parts(case.clone(), calls, set_calls);
                 self.drop_tail(case)
             }
-            Case::Route { .. } | Case::Grid { .. } => self.drop_tail(case),
+            Case::Route { .. } | Case::Grid { .. } | Case::Gate { .. } => self.drop_tail(case),
             Case::ReadAlone(_) | Case::Sheets(_) | Case::ReadWithCalls { .. } => {
                 let text = text_of(&case);
                 let lines = text.split_inclusive(|&byte| byte == b'\n').map(<[u8]>::to_vec);
@@ -159,7 +159,7 @@ fn room_in(case: &mut Case) -> Option<&mut Vec<u32>> {
     match case {
         Case::List { answers, .. } => Some(answers),
         Case::Route { room, .. } | Case::ReadWithCalls { room, .. } => Some(room),
-        Case::Grid { room, .. } => Some(room),
+        Case::Grid { room, .. } | Case::Gate { room, .. } => Some(room),
         _ => None,
     }
 }

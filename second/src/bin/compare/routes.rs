@@ -29,14 +29,14 @@ fn pair(random: &mut Random) -> (Setup, u32, u32) {
 }
 
 /// A desk that is none.
-fn outside(random: &mut Random, setup: &Setup) -> u32 {
+pub fn outside(random: &mut Random, setup: &Setup) -> u32 {
     let desks = setup.desks;
     let further = desks.saturating_add(random.wild());
     random.pick(&[desks, desks, DESKS as u32 + 1, u32::MAX, further])
 }
 
 /// Room for a list: most often just enough or more, now and then too short.
-fn room(random: &mut Random) -> Vec<u32> {
+pub fn room(random: &mut Random) -> Vec<u32> {
     let length = match random.below(10) {
         0 => ROUTE_NUMBERS - 1,
         1 => random.below(ROUTE_NUMBERS),

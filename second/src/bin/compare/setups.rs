@@ -36,9 +36,9 @@ pub fn small(random: &mut Random) -> Setup {
     of_counts(random, counts)
 }
 
-/// A small setup with two desks or more: as chance has it, or with every desk and class served, or a line.
-pub fn for_search(random: &mut Random) -> Setup {
-    let desks = random.between(2, SMALL[0]);
+/// A small setup with so many desks or more: as chance has it, or with every desk and class served, or a line.
+pub fn for_search(random: &mut Random, least: usize) -> Setup {
+    let desks = random.between(least, SMALL[0]);
     let classes = random.between(1, SMALL[1]);
     let files = random.between(classes, SMALL[3]);
     let mut setup = of_counts(random, [desks, classes, SMALL[2], files]);
@@ -54,6 +54,24 @@ pub fn for_search(random: &mut Random) -> Setup {
             setup.rights[right_at(pair[0], class)] |= W;
             setup.rights[right_at(pair[1], class)] |= R;
         }
+    }
+    setup
+}
+
+/// A small setup with three desks or more and few links, each with a class and a file of its own.
+pub fn sparse(random: &mut Random) -> Setup {
+    const MOST_DESKS: usize = 5;
+    let desks = random.between(3, MOST_DESKS);
+    let links = random.between(2, MOST_DESKS + 1);
+    let mut setup = of_counts(random, [desks, links, MOST_DESKS, links]);
+    setup.rights = Setup::ZERO.rights;
+    (0..MOST_DESKS).for_each(|process| setup.desk_of[process] = (process % desks) as u8);
+    for class in 0..links {
+        setup.class_of[class] = class as u8;
+        let from = random.below(desks);
+        let to = (from + random.between(1, desks - 1)) % desks;
+        grant(&mut setup, &[from], class, W);
+        grant(&mut setup, &[to], class, R);
     }
     setup
 }
@@ -134,6 +152,28 @@ pub fn line_among(random: &mut Random, desks: usize, links: usize) -> (Setup, Ve
     seat(random, &mut setup, &desks, &classes[..links]);
     strew_backward(random, &mut setup, &layers, &classes[..links]);
     (setup, layers)
+}
+
+/// A setup with two ways between two desks, which have no desk in common but those, and these two desks. The one
+/// way may be much longer than the other.
+pub fn two_ways(random: &mut Random) -> (Setup, [u32; 2]) {
+    let shorter = if random.once_in(2) { 2 } else { random.between(2, CLASSES / 2) };
+    let longer = random.between(shorter, CLASSES - shorter);
+    let links = shorter + longer;
+    let (desks, classes) = (order(random, DESKS), order(random, CLASSES));
+    let (a, b) = (desks[0], desks[1]);
+    let files = random.between(links, FILES);
+    let mut setup = of_counts(random, [DESKS, CLASSES, PROCESSES, files]);
+    setup.rights = Setup::ZERO.rights;
+    let middles = [&desks[2..=shorter], &desks[shorter + 1..links]];
+    let ways = middles.map(|middle| [&[a][..], middle, &[b]].concat());
+    let pairs = ways.iter().flat_map(|way| way.windows(2));
+    for (pair, &class) in pairs.zip(&classes) {
+        grant(&mut setup, &pair[..1], class, W);
+        grant(&mut setup, &pair[1..], class, R);
+    }
+    seat(random, &mut setup, &desks, &classes[..links]);
+    (setup, [a as u32, b as u32])
 }
 
 fn grant(setup: &mut Setup, desks: &[usize], class: usize, right: u8) {

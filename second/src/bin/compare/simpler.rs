@@ -1,14 +1,15 @@
 //! The ways in which a case can be made simpler, for the cutting down.
 
 use crate::case::Case;
+use crate::drops::ways_of_counts;
 use crate::setups::MOST;
 use crate::texts::{call_lines, join, setup_lines};
-use second::call::{code, Call};
-use second::route::chain;
+use second::gate::{gate, Guard, Three};
+use second::route::{report, Report};
 use second::rules::Rules;
-use second::setup::{could_be_accepted, right_at, Setup, SetupBytes};
-use second::sizes::{CALL_WIDTH, CLASSES, DESKS, FILES, LIST_NUMBERS, PROCESSES};
-use second::store::{mark_at, Cell, Store};
+use second::setup::{Setup, SetupBytes};
+use second::sizes::{CALL_WIDTH, DESKS, FILES, LIST_NUMBERS, PROCESSES, ROUTE_NUMBERS};
+use second::store::{Cell, Store};
 use second::text::{read_alone, read_with_calls};
 
 /// A way to make a case simpler.
@@ -35,7 +36,7 @@ pub fn ways(case: &Case) -> Vec<Simpler> {
         let setup = setup_in(&mut list).cloned().unwrap_or(Setup::ZERO);
         ways.extend(ways_of_counts(&setup).into_iter().map(on_text));
     }
-    if let Case::Route { .. } = case {
+    if let Case::Route { .. } | Case::Gate { .. } = case {
         ways.extend((0..DESKS).map(|desk| -> Simpler { Box::new(nearer(desk)) }));
     }
     ways.push(Box::new(clear_room));
@@ -46,17 +47,17 @@ pub fn ways(case: &Case) -> Vec<Simpler> {
     ways
 }
 
-fn setup_in(case: &mut Case) -> Option<&mut Setup> {
+pub fn setup_in(case: &mut Case) -> Option<&mut Setup> {
     match case {
         Case::Fresh(setup) | Case::Judge(setup, _) => Some(setup),
         Case::Call(setup, _, _) | Case::CallInPlace(setup, _, _) => Some(setup),
         Case::List { setup, .. } | Case::Route { setup, .. } => Some(setup),
-        Case::Grid { setup, .. } => Some(setup),
+        Case::Grid { setup, .. } | Case::Gate { setup, .. } => Some(setup),
         _ => None,
     }
 }
 
-fn store_in(case: &mut Case) -> Option<&mut Store> {
+pub fn store_in(case: &mut Case) -> Option<&mut Store> {
     match case {
         Case::Judge(_, store) => Some(store),
         Case::Call(_, store, _) | Case::CallInPlace(_, store, _) => Some(store),
@@ -91,24 +92,46 @@ fn clear_number(place: usize) -> impl Fn(&mut Case) {
     }
 }
 
+/// The calls of the list that is due for a route or around a gate, if one is.
+fn calls_due(case: &Case) -> Option<u32> {
+    let mut room = [0; ROUTE_NUMBERS];
+    match case {
+        Case::Route { setup, a, b, .. } => {
+            match report(Rules::UNTURNED, setup, *a, *b, &mut room) {
+                Report::Route(calls) => Some(calls),
+                _ => None,
+            }
+        }
+        Case::Gate { setup, three, .. } => match gate(Rules::UNTURNED, setup, *three, &mut room) {
+            Guard::Unguarded(calls) => Some(calls),
+            _ => None,
+        },
+        _ => None,
+    }
+}
+
+/// The first and the last desk of a route, or of a way around a gate.
+fn ends_in(case: &mut Case) -> Option<[&mut u32; 2]> {
+    match case {
+        Case::Route { a, b, .. } => Some([a, b]),
+        Case::Gate { three: Three { a, b, .. }, .. } => Some([a, b]),
+        _ => None,
+    }
+}
+
 /// A desk takes the place of a route's first, or else of its last, where fewer links are left then.
 fn nearer(desk: usize) -> impl Fn(&mut Case) {
     move |case| {
-        let Case::Route { setup, a, b, .. } = case else {
-            return;
-        };
-        let links = |a: u32, b: u32| {
-            if a == b || a.max(b) >= setup.desks || !could_be_accepted(Rules::UNTURNED, setup) {
-                return None;
+        let moved = |end: usize| {
+            let mut moved = case.clone();
+            if let Some(ends) = ends_in(&mut moved) {
+                *ends[end] = desk as u32;
             }
-            chain(Rules::UNTURNED, setup, a as usize, b as usize).map(|chain| chain.len())
+            moved
         };
-        let desk = desk as u32;
-        let fewer = |nearer: Option<usize>| nearer.is_some() && nearer < links(*a, *b);
-        match (fewer(links(desk, *b)), fewer(links(*a, desk))) {
-            (true, _) => *a = desk,
-            (_, true) => *b = desk,
-            _ => {}
+        let fewer = |moved: &Case| calls_due(moved).is_some() && calls_due(moved) < calls_due(case);
+        if let Some(moved) = [0, 1].map(moved).into_iter().find(fewer) {
+            *case = moved;
         }
     }
 }
@@ -117,16 +140,16 @@ fn clear_room(case: &mut Case) {
     match case {
         Case::List { answers, .. } => answers.fill(0),
         Case::Route { room, .. } | Case::ReadWithCalls { room, .. } => room.fill(0),
-        Case::Grid { room, .. } => room.fill(0),
+        Case::Grid { room, .. } | Case::Gate { room, .. } => room.fill(0),
         Case::Call(_, _, call) | Case::CallInPlace(_, _, call) => call.extra = 0,
         _ => {}
     }
 }
 
-/// Where it matters that a grid's room is not all 0, it may be another number throughout.
+/// Where it matters that a room is not all 0, it may be another number throughout.
 fn even_room(case: &mut Case) {
     const KEPT: u32 = 7;
-    if let Case::Grid { room, .. } = case {
+    if let Case::Grid { room, .. } | Case::Gate { room, .. } = case {
         if room.iter().any(|&number| number != room[0]) {
             room.fill(KEPT);
         }
@@ -205,135 +228,6 @@ fn write_text(case: &mut Case, list: &Case) {
         }
         _ => {}
     }
-}
-
-/// Each desk, class, process and file may go, the last first, so that those before keep their numbers.
-fn ways_of_counts(setup: &Setup) -> Vec<Simpler> {
-    let counts = [setup.desks, setup.classes, setup.processes, setup.files];
-    let drops = [drop_desk, drop_class, drop_process, drop_file];
-    let mut ways: Vec<Simpler> = Vec::new();
-    for (which, drop) in drops.into_iter().enumerate().rev() {
-        for number in (0..MOST[which].min(counts[which] as usize)).rev() {
-            ways.push(Box::new(move |case| drop(case, number)));
-        }
-    }
-    ways
-}
-
-/// Takes one away from a count, if one more is there and the count lies in its sizes.
-fn one_less(count: &mut u32, number: usize, most: usize) -> bool {
-    let held = *count as usize;
-    let can = held >= 2 && held <= most && number < held;
-    *count -= u32::from(can);
-    can
-}
-
-/// An entry goes, those behind it move up, and the last becomes 0.
-fn drop_entry<T: Copy + Default>(entries: &mut [T], place: usize) {
-    entries.copy_within(place + 1.., place);
-    if let Some(last) = entries.last_mut() {
-        *last = T::default();
-    }
-}
-
-/// A number that counts past one that goes is one less.
-fn move_up<T: Copy + PartialOrd + std::ops::SubAssign>(number: &mut T, gone: T, one: T) {
-    if *number > gone {
-        *number -= one;
-    }
-}
-
-/// Changes every call of a case.
-fn each_call(case: &mut Case, change: impl Fn(&mut Call)) {
-    match case {
-        Case::Call(_, _, call) | Case::CallInPlace(_, _, call) => change(call),
-        Case::List { calls, .. } => {
-            for numbers in calls.chunks_exact_mut(CALL_WIDTH) {
-                let mut call = Call::from_numbers(numbers);
-                change(&mut call);
-                numbers.copy_from_slice(&call.numbers());
-            }
-        }
-        _ => {}
-    }
-}
-
-fn drop_file(case: &mut Case, file: usize) {
-    let Some(setup) = setup_in(case) else {
-        return;
-    };
-    if !one_less(&mut setup.files, file, FILES) {
-        return;
-    }
-    drop_entry(&mut setup.class_of, file);
-    if let Some(store) = store_in(case) {
-        drop_entry(&mut store.holders, file);
-        drop_entry(&mut store.cells, file);
-        store.marks.copy_within(mark_at(file + 1, 0).., mark_at(file, 0));
-        store.marks[mark_at(FILES - 1, 0)..].fill(0);
-    }
-    each_call(case, |call| {
-        move_up(&mut call.file, file as u32, 1);
-        if call.operation == code::COPY {
-            move_up(&mut call.extra, file as u32, 1);
-        }
-    });
-}
-
-fn drop_process(case: &mut Case, process: usize) {
-    let Some(setup) = setup_in(case) else {
-        return;
-    };
-    if !one_less(&mut setup.processes, process, PROCESSES) {
-        return;
-    }
-    drop_entry(&mut setup.desk_of, process);
-    if let Some(store) = store_in(case) {
-        store.holders.iter_mut().for_each(|holder| move_up(holder, process as u32 + 1, 1));
-        store.marks.chunks_mut(PROCESSES).for_each(|marks| drop_entry(marks, process));
-    }
-    each_call(case, |call| move_up(&mut call.process, process as u32, 1));
-}
-
-fn drop_desk(case: &mut Case, desk: usize) {
-    let Some(setup) = setup_in(case) else {
-        return;
-    };
-    if !one_less(&mut setup.desks, desk, DESKS) {
-        return;
-    }
-    setup.rights.copy_within(right_at(desk + 1, 0).., right_at(desk, 0));
-    setup.rights[right_at(DESKS - 1, 0)..].fill(0);
-    let seats = &mut setup.desk_of[..];
-    seats.iter_mut().for_each(|seat| move_up(seat, desk as u8, 1));
-    seats.iter_mut().for_each(|seat| *seat = (*seat).min(setup.desks as u8 - 1));
-    match case {
-        Case::Route { a, b, .. } => {
-            move_up(a, desk as u32, 1);
-            move_up(b, desk as u32, 1);
-        }
-        Case::Grid { setup, room } => drop_row_and_column(room, setup.desks as usize),
-        _ => {}
-    }
-}
-
-/// A grid's room loses what it held for the desk that went, so that as much as before lies past the grid, or lacks.
-fn drop_row_and_column(room: &mut Vec<u32>, desks: usize) {
-    let held = 2 * desks + 1;
-    room.truncate(room.len().saturating_sub(held));
-}
-
-fn drop_class(case: &mut Case, class: usize) {
-    let Some(setup) = setup_in(case) else {
-        return;
-    };
-    if !one_less(&mut setup.classes, class, CLASSES) {
-        return;
-    }
-    setup.rights.chunks_mut(CLASSES).for_each(|row| drop_entry(row, class));
-    let classes = &mut setup.class_of[..];
-    classes.iter_mut().for_each(|of| move_up(of, class as u8, 1));
-    classes.iter_mut().for_each(|of| *of = (*of).min(setup.classes as u8 - 1));
 }
 
 /// The last desk, class, process or file of setup bytes may go, and each byte may become 0.

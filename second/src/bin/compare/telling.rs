@@ -3,6 +3,7 @@
 use crate::case::Case;
 use crate::programs::Found;
 use crate::reply::{number, Reply, GUARD_WORDS};
+use second::gate::Three;
 use second::setup::{Setup, SetupBytes};
 use second::sizes::{ANSWER_WIDTH, CALL_WIDTH, CLASSES, PROCESSES};
 use second::store::Store;
@@ -38,6 +39,10 @@ pub fn tell(case: &Case) -> String {
         }
         Case::Grid { setup, room } => {
             format!("grid\n{}  room {}\n", tell_setup(setup), tell_numbers(room))
+        }
+        Case::Gate { setup, three: Three { a, b, gate }, room } => {
+            let room = tell_numbers(room);
+            format!("gate {gate} on the way from {a} to {b}\n{}  room {room}\n", tell_setup(setup))
         }
         Case::Sheets(text) => format!("text through sheets\n{}", tell_text(text)),
     }

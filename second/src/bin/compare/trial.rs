@@ -1,20 +1,18 @@
 //! The trial: puts families of cases to both programs, and keeps what it met, found and could not find.
 
-use crate::brute::{list_case, struck, Brute};
+use crate::brute::Brute;
 use crate::case::Case;
-use crate::counts::{Counts, LINKED_TOTAL, SHOWN_TOTAL, UNLINKED_TOTAL};
+use crate::counts::{Counts, LINKED_TOTAL, UNLINKED_TOTAL};
 use crate::eyes::Eyes;
 use crate::families::{Family, FAMILIES};
 use crate::least::Cutter;
 use crate::options::Options;
 use crate::programs::{Found, Lack, Patience, Programs, REPLY_LIMIT};
 use crate::random::Random;
-use crate::reply::{number, GUARD_WORDS, STORE_BYTES, WORD};
 use crate::singles;
-use crate::telling::{tell, tell_grids, tell_setup};
-use second::call::{Answer, Call};
+use crate::telling::{tell, tell_grids};
+use crate::written::{self, RUNS};
 use second::rules::{Rules, Turn};
-use second::sizes::{ANSWER_WIDTH, CALL_WIDTH};
 use std::time::{Duration, Instant};
 
 /// Cases that one process of the driver answers.
@@ -29,13 +27,12 @@ const CUTTING_LIMIT: Duration = Duration::from_secs(2);
 const CUTTING_HANGS: usize = 10;
 /// Setups that a round searches by brute force.
 const SEARCHES: usize = 3_000;
+/// The same with a gate desk.
+const GATE_SEARCHES: usize = 1_500;
 
 pub const WRITTEN: &str = "lists that reports wrote";
 pub const SEARCHED: &str = "lists and reports of the search";
 pub const SINGLES: &str = "reports on the pairs of grids";
-
-/// What B's last call answers in a list that a report wrote, with A's calls and without: demand 3.
-const SHOWN: [Answer; 2] = [Answer::Figure(1), Answer::Nothing];
 
 /// What became of a family.
 pub struct Result {
@@ -55,8 +52,11 @@ pub struct Trial {
     pub results: Vec<Result>,
     pub eyes: Eyes,
     pub brute: Brute,
+    pub gates: Brute,
     /// Lists that a report wrote and that do not show what they are to show.
     pub unshown: u64,
+    /// Lists that are to go around a gate desk and have a call of it.
+    pub through: u64,
     /// Numbers of grids that are not what the first program itself reports on the pair.
     pub unlike: u64,
 }
@@ -75,7 +75,9 @@ impl Trial {
             results: Vec::new(),
             eyes: Eyes::new(),
             brute: Brute::default(),
+            gates: Brute::default(),
             unshown: 0,
+            through: 0,
             unlike: 0,
             options,
         }
@@ -174,25 +176,15 @@ impl Trial {
         println!("  {}", due.difference(found));
     }
 
-    /// Runs each list that the first program's reports wrote, with A's calls and without.
+    /// Runs each list that the first program's reports wrote, with A's calls and without, and seeks a gate's calls.
     fn run_written(&mut self, random: &mut Random, cases: &[Case], found: &[Found]) {
-        let mut lists = Vec::new();
-        for (case, found) in cases.iter().zip(found) {
-            if let (Case::Route { setup, a, .. }, Ok(found)) = (case, found) {
-                let calls = written(found);
-                if !calls.is_empty() {
-                    lists.push(list_case(random, setup, &calls));
-                    lists.push(list_case(random, setup, &struck(setup, &calls, *a)));
-                }
-            }
-        }
-        for lists in lists.chunks(BATCH) {
-            let found = self.put(WRITTEN, lists);
-            for (lists, found) in lists.chunks(2).zip(found.chunks(2)) {
-                let last = [0, 1].map(|run| last_answer(&lists[run], &found[run]));
-                let shown = last == SHOWN.map(|answer| Some(answer.numbers()));
-                self.counts.totals.met(SHOWN_TOTAL, 0);
-                self.unshown += u64::from(!shown);
+        for lists in written::of_reports(random, cases, found).chunks(BATCH / RUNS) {
+            let runs: Vec<Case> = lists.iter().flat_map(|list| list.runs.clone()).collect();
+            let found = self.put(WRITTEN, &runs);
+            for (list, found) in lists.iter().zip(found.chunks(RUNS)) {
+                self.counts.totals.met(list.total, 0);
+                self.unshown += u64::from(!list.shows(found));
+                self.through += u64::from(list.passes_gate);
             }
         }
     }
@@ -210,26 +202,22 @@ impl Trial {
         }
     }
 
-    /// Searches random lists for what one desk can hear of another.
+    /// Searches random lists for what one desk can hear of another, and for what it can past a gate.
     fn search(&mut self, random: Random) {
         let mut random = random;
-        for _ in 0..SEARCHES {
-            self.brute.search(&mut random);
-        }
-        let share = std::mem::take(&mut self.brute.share);
-        for cases in share.chunks(BATCH) {
-            self.put_and_run(SEARCHED, &mut random, cases);
+        (0..SEARCHES).for_each(|_| self.brute.search(&mut random));
+        (0..GATE_SEARCHES).for_each(|_| self.gates.search_gate(&mut random));
+        for share in [&mut self.brute.share, &mut self.gates.share].map(std::mem::take) {
+            for cases in share.chunks(BATCH) {
+                self.put_and_run(SEARCHED, &mut random, cases);
+            }
         }
     }
 
-    /// Tells the list that contradicts a report of no route, if one was found.
+    /// Tells the lists that contradict a report, if any was found.
     pub fn tell_contradiction(&self) {
-        let Some((setup, a, b, calls)) = &self.brute.contradiction else {
-            return;
-        };
-        println!("\nThe report says no route from {a} to {b}, with seed {}:", self.options.seed);
-        print!("{}", tell_setup(setup));
-        calls.iter().for_each(|call| println!("  call {:?}", call.numbers()));
+        let seed = self.options.seed;
+        [&self.brute, &self.gates].iter().for_each(|brute| brute.tell_contradiction(seed));
     }
 
     /// What the families, and the searches, amount to: a name and whether it is so.
@@ -242,27 +230,18 @@ impl Trial {
                 format!("{family}: {cases} cases, {differences} differ{left}, {seconds:.1} s");
             checks.push((told, differences + unasked == 0));
         }
-        let brute = &self.brute;
-        let (silent, lists) = (brute.silent, brute.silent_lists);
-        let heard = if brute.contradiction.is_none() { "none" } else { "one" };
-        checks.push((
-            format!("no route: {silent} pairs of desks, {lists} lists searched, {heard} is heard"),
-            brute.contradiction.is_none() && silent > 0,
-        ));
-        let (found, routes) = (brute.routes_found, brute.routes);
-        let links = brute.by_links.iter().enumerate().filter(|(_, (_, all))| *all > 0);
-        let links: Vec<String> =
-            links.map(|(links, (found, all))| format!("{links} links {found} of {all}")).collect();
-        checks.push((
-            format!(
-                "route: the same search finds {found} of {routes} without the written list ({})",
-                links.join(", ")
-            ),
-            brute.has_power(),
-        ));
+        checks.push(self.brute.silent_check("no route", "pairs of desks"));
+        checks.push(self.brute.found_check("route"));
+        checks.push(self.gates.silent_check("guarded", "gates without their calls"));
+        checks.push(self.gates.found_check("not guarded"));
+        checks.push(self.gates.guarded_check());
         checks.push((
             format!("written lists: {} do not show figure 1, and nothing without A", self.unshown),
             self.unshown == 0,
+        ));
+        checks.push((
+            format!("gates: {} written lists have a call of C", self.through),
+            self.through == 0,
         ));
         checks.push((
             format!("grids: {} numbers are not as the first program reports", self.unlike),
@@ -286,27 +265,4 @@ impl Trial {
         };
         self.eyes.sights.iter().map(told).collect()
     }
-}
-
-/// The calls that a reply to a route case says were written.
-fn written(found: &[u8]) -> Vec<Call> {
-    const FIRST: usize = ANSWER_WIDTH + GUARD_WORDS;
-    if number(found, 0) != Some(1) {
-        return Vec::new();
-    }
-    let count = number(found, 1).unwrap_or(0) as usize;
-    let numbers = (0..count * CALL_WIDTH).filter_map(|place| number(found, FIRST + place));
-    let numbers: Vec<u32> = numbers.collect();
-    numbers.chunks_exact(CALL_WIDTH).map(Call::from_numbers).collect()
-}
-
-/// What the last call of a list answered, by the first program's reply; nothing at all where there is none.
-fn last_answer(case: &Case, found: &Found) -> Option<[u32; ANSWER_WIDTH]> {
-    let (Case::List { calls, .. }, Ok(found)) = (case, found) else {
-        return None;
-    };
-    // The answer of the list, the store, the calls between guards, and the answers behind theirs.
-    let before = ANSWER_WIDTH + STORE_BYTES / WORD + GUARD_WORDS * 3 + calls.len();
-    let last = before + (calls.len() / CALL_WIDTH).checked_sub(1)? * ANSWER_WIDTH;
-    Some([number(found, last)?, number(found, last + 1)?])
 }

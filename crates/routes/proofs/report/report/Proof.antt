@@ -1,36 +1,37 @@
 -- `routes::report::report` meets its contract: the refusal, no route and the list are the report's, and so they meet demand 3.
 -- Assumes nothing.
-use Prim.Native.Nat.{ℕ, _<_, _≤_}
+use Prim.Native.Nat.{ℕ, _<_}
 use mathlib.Core.Path.{_≡_, ap, sym, _∙_}
 use mathlib.Core.Logic.{_≢_}
 use mathlib.Core.List.{List}
 use native.Mathlib.Omega.{arith}
-use lib.ListN.{length, getD}
+use lib.ListN.{length}
 use borrow.Author.Needs.{needs}
 use Rattle.rules.specs.Sizes.{mostDesks}
 use Rattle.rules.specs.Links.{linked}
 use Rattle.rules.specs.declared.Setup.{Setup}
 use Rattle.rules.proofs.Setups.{accepted-sizes}
-use Rattle.chains.specs.Chains.{far, fewestLinks}
-use Rattle.reaching.specs.Tables.{mostPairs}
+use Rattle.chains.specs.Chains.{Links}
+use Rattle.reaching.specs.Tables.{mostPairs, linksIn}
 use Rattle.routes.specs.Reports.{routeRefusal, routed, roomAfter, routeNumbersOf}
+use Rattle.routes.specs.Writers.{callsAlong}
 use Rattle.routes.specs.Demand3.{Demand3}
 use Rattle.routes.specs.declared.RouteAnswer.{RouteAnswer}
-use Rattle.routes.proofs.Reports.{Sound, route-sound, routed-refused, room-refused, routed-none, room-none, routed-shown, room-shown}
+use Rattle.routes.specs.declared.RouteAnswer.the-variants.{Route}
+use Rattle.routes.proofs.Reports.{none-along, some-along, calls-shown, Sound, route-sound, routed-refused, room-refused, room-left, routed-none, routed-shown}
 use Rattle.routes.proofs.Demands.{demand3-met}
-use Rattle.routes.proofs.Reached.{fewest-told, walked-is, ready}
 use Rattle.routes.proofs.report.report.Statement.{statement}
 use Rattle.routes.proofs.report.report.Tie as tie
 
--- The places: from the refusal the start, from the numbers of links the test of the refusal, from the writer's call the test of the number.
+-- The places: from the refusal the start, from the way's call the links, and from the end the way.
 abbrev start : tie.After-route-refusal → tie.Start
 start c = c .before .before
 
-abbrev at-test : tie.After-reach → tie.Else1
-at-test c = c .before .before .before
+abbrev at-links : tie.After-show-route-arg → tie.After-links-of
+at-links c = c .before .before
 
-abbrev at-number : tie.After-write-route-arg → tie.Else2
-at-number c = c .before .before .before
+abbrev at-way : tie.After-slice-known2 → tie.After-show-route
+at-way c = c .before .before
 
 route-refusal-requires : tie.Need-route-refusal-requires
 route-refusal-requires c κs = search needs
@@ -61,73 +62,62 @@ desks c = let h = sound c in let sizes = accepted-sizes _ (h .setup) in omega (a
 links-of-requires : tie.Need-links-of-requires
 links-of-requires c κs = sound c .setup
 
-slice-aggregate-reach : tie.Need-slice-aggregate-reach
-slice-aggregate-reach c = search needs
+slice-aggregate-show-route : tie.Need-slice-aggregate-show-route
+slice-aggregate-show-route c = search needs
 
-reach-requires : tie.Need-reach-requires
-reach-requires c κs = let long : length (c .before .links-of .result) ≡ mostPairs = search needs in (long, desks (c .before .before) .1, omega arith)
+-- the links of the table are the setup's
+own : (c : tie.After-links-of) → linksIn (c .links-of .result) ≡ linked (start (c .before .before) .args .setup)
+own c = c .links-of .ensures
 
-array-read-count : tie.Need-array-read-count
-array-read-count c = omega (arith, desks (at-test c) .0)
-
--- the number at desk a is the fewest links from there to desk b
-counted : (c : tie.After-reach) → (let at = start (at-test c .before) .args in getD (c .reach .result) (at .a) 0 ≡ fewestLinks (linked (at .setup)) (at .a) (at .b))
-counted c = let at = start (at-test c .before) .args in fewest-told (at .setup) (at .a) (at .b) _ (c .before .before .links-of .ensures) (c .reach .ensures) (desks (at-test c) .0)
-
-returns-2 : tie.Need-returns-2
-returns-2 c =
-    let test = at-test (c .before) in
-    let at = start (test .before) .args in
-    let e = unrefused test in
-    let h : far ≤ fewestLinks (linked (at .setup)) (at .a) (at .b) = omega (arith, counted (c .before), c .if2 .taken) in
-    promised (at .setup) (at .a) (at .b) (at .room .now) (sym (routed-none (at .setup) (at .a) (at .b) (at .room .now) e h))
-    (sym (room-none (at .setup) (at .a) (at .b) (at .room .now) e h))
-
-slice-aggregate-write-route : tie.Need-slice-aggregate-write-route
-slice-aggregate-write-route c = search needs
-
-slice-aggregate-write-route-2 : tie.Need-slice-aggregate-write-route-2
-slice-aggregate-write-route-2 c = search needs
-
-write-route-requires : tie.Need-write-route-requires
-write-route-requires c κs =
-    let number = at-number c in
-    let reached = number .before in
-    let test = at-test reached in
-    let at = start (test .before) .args in
-    let h = sound test in
-    let made = reached .before .before in
+show-route-requires : tie.Need-show-route-requires
+show-route-requires c κs =
+    let made = at-links c in
+    let h = sound (made .before) in
     let long : length (made .links-of .result) ≡ mostPairs = search needs in
-    ready (at .setup) (at .a) (at .b) _ (made .links-of .ensures) (reached .reach .ensures) (desks test .0) (h .setup) long (h .apart) (number .if2 .left) (h .spacious)
-
-cast-calls : tie.Need-cast-calls
-cast-calls c = search needs
-
-mul-calls : tie.Need-mul-calls
-mul-calls c = search needs
-
-add-calls : tie.Need-add-calls
-add-calls c = search needs
-
-cast-t29 : tie.Need-cast-t29
-cast-t29 c = search needs
+    record {
+      setup = h .setup;
+      long = long;
+      own = λ d e k. rw (own made) at k;
+      from = desks (made .before) .0;
+      onto = desks (made .before) .1;
+      apart = h .apart;
+      spacious = h .spacious;
+    }
 
 same-length : tie.Need-same-length
 same-length c = search needs
 
+same-length-2 : tie.Need-same-length-2
+same-length-2 c = search needs
+
+-- what the way told
+told : (c : tie.After-show-route)
+    → (let at = start (at-links (c .before) .before .before) .args in c .show-route .result ≡ callsAlong (linked (at .setup)) (at .a) (at .b))
+told c =
+    let made = at-links (c .before) in
+    let at = start (made .before .before) .args in
+    c .show-route .ensures .0 ∙ ap (λ (l : Links). callsAlong l (at .a) (at .b)) (own made)
+
+returns-2 : tie.Need-returns-2
+returns-2 c =
+    let way = at-way (c .before) in
+    let made = at-links (way .before) in
+    let at = start (made .before .before) .args in
+    let e = unrefused (made .before) in
+    let h = none-along (linked (at .setup)) (at .a) (at .b) (sym (told way) ∙ c .if2 .taken) in
+    promised (at .setup) (at .a) (at .b) (at .room .now) (sym (routed-none (at .setup) (at .a) (at .b) (at .room .now) e h))
+    (room-left (at .setup) (at .a) (at .b) (at .room .now) e (own made) (way .show-route .ensures .1))
+
 returns-3 : tie.Need-returns-3
 returns-3 c =
-    let write = c .before .before in
-    let number = at-number (write .before) in
-    let reached = number .before in
-    let test = at-test reached in
-    let at = start (test .before) .args in
-    let e = unrefused test in
-    let same = counted reached in
-    let h : fewestLinks (linked (at .setup)) (at .a) (at .b) < far = omega (arith, same, number .if2 .left) in
-    let chain = walked-is (at .setup) (at .a) (at .b) _ (reached .before .before .links-of .ensures) (reached .reach .ensures) (desks test .0) in
-    promised (at .setup) (at .a) (at .b) (at .room .now) (rw (routed-shown (at .setup) (at .a) (at .b) (at .room .now) e h) (simp same))
-    (rw (room-shown (at .setup) (at .a) (at .b) (at .room .now) e h) (write .write-route .ensures ∙ rw (chain, same)))
+    let way = at-way (c .before) in
+    let made = at-links (way .before) in
+    let at = start (made .before .before) .args in
+    let e = unrefused (made .before) in
+    let h = some-along (linked (at .setup)) (at .a) (at .b) (λ z. c .if2 .left (told way ∙ z)) in
+    let calls = told way ∙ calls-shown (linked (at .setup)) (at .a) (at .b) h in
+    promised (at .setup) (at .a) (at .b) (at .room .now) (ap Route calls ∙ sym (routed-shown (at .setup) (at .a) (at .b) (at .room .now) e h))
+    (room-left (at .setup) (at .a) (at .b) (at .room .now) e (own made) (way .show-route .ensures .1))
 
 pub report-spec : {M : Type 1} → statement M
 report-spec =
@@ -136,16 +126,9 @@ report-spec =
     route-refusal-requires
     returns
     links-of-requires
-    slice-aggregate-reach
-    reach-requires
-    array-read-count
-    returns-2
-    slice-aggregate-write-route
-    slice-aggregate-write-route-2
-    write-route-requires
-    cast-calls
-    mul-calls
-    add-calls
-    cast-t29
+    slice-aggregate-show-route
+    show-route-requires
     same-length
+    returns-2
+    same-length-2
     returns-3)

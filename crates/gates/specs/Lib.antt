@@ -1,0 +1,2 @@
+-- What a reader must believe of the gate report.
+pub mod Gates
