@@ -267,12 +267,12 @@ dw_answer dw_route(dw_setup setup, uint32_t a, uint32_t b, uint32_t *room, size_
 
 /* Whether all that desk b can hear of desk a passes the desk gate. Where nothing is refused, DW_GUARDED is answered exactly
  * when, for every list of calls from a fresh store in which gate makes no call, striking out a's calls changes none of b's
- * answers; so where dw_route answers DW_NO_ROUTE for a and b, every desk guards them. Otherwise DW_UNGUARDED, and a list of calls
- * that shows the difference, none of them gate's, is written to the front of room: the list that dw_route would write if gate
- * had no process, so that no link ran from it or to it. What lies past the list keeps its values.
+ * answers; so where dw_route answers DW_NO_ROUTE for a and b, every other desk guards them. Otherwise DW_UNGUARDED, and a list of
+ * calls that shows the difference, none of them gate's, is written to the front of room: the list that dw_route would write if no
+ * link ran from gate or to it. What lies past the list keeps its values.
  * Refusals, in this order: 15; 12 for any of the three desks; 13 where any two of them are equal; 11, where the room is below
- * DW_ROUTE_NUMBERS, though no list that goes around a desk needs as much. With fewer than three desks one of 12 and 13 is given
- * always, unless the setup is refused. A refusal, and DW_GUARDED, write nothing. */
+ * DW_ROUTE_NUMBERS, in which every list fits. With fewer than three desks it is 12 or 13 always, unless the setup is refused. A
+ * refusal, and DW_GUARDED, write nothing. */
 dw_answer dw_gate(dw_setup setup, uint32_t a, uint32_t b, uint32_t gate, uint32_t *room, size_t room_len);
 
 /* The number of links from every desk to every desk at once. With D the setup's own number of desks, D * D numbers fill the

@@ -15,10 +15,14 @@ use Rattle.rules.specs.Links.{hasProcess, serves, linked}
 use Rattle.rules.specs.declared.Setup.{Setup}
 use Rattle.rules.proofs.Setups.{accepted-sizes, deskOf-lt}
 use Rattle.rules.proofs.Links.{ProcessAt, linked-iff}
-use Rattle.chains.specs.Chains.{Acting, linksAmong, processAt, fileFor, deskAt, Fewest}
+use Rattle.chains.specs.Chains.{Links, Acting, linksAmong, processAt, fileFor, deskAt, Fewest}
 use Rattle.chains.proofs.Lowest.{lowest-iff, lowest-holds, lowest-below}
 use Rattle.chains.proofs.Chains.{AmongDesks, link-at, linksAmong-iff, linksAmong-desks}
 use Rattle.chains.proofs.Shortest.{links-apart}
+
+-- a setup's links among the desks that act
+abbrev pub linkedAmong : Setup → Acting → Links
+linkedAmong s acting = linksAmong acting (linked s)
 
 module _ (s : Setup) (e : accepted s ≡ true) where
   -- a desk that has a process is one of the setup
@@ -36,7 +40,7 @@ module _ (s : Setup) (e : accepted s ≡ true) where
       record { ends = λ d u h. let (k, l) = linked-among .ends d u h in (omega arith, omega arith) }
 
   -- the same is so of the links among the desks that act
-  pub acting-most : (acting : Acting) → AmongDesks mostDesks (linksAmong acting (linked s))
+  pub acting-most : (acting : Acting) → AmongDesks mostDesks (linkedAmong s acting)
   acting-most acting = linksAmong-desks acting linked-among-most
 
 -- "Each desk acts by its lowest process": one that exists and sits there, and none that sits there is lower
@@ -93,11 +97,11 @@ shared-file s d e u v f k l h x y =
       reads = and-eq-true-iff (hasW (rightOf s u (classOf s f))) (hasR (rightOf s v (classOf s f))) .0 y .1;
     })
 
-module _ (s : Setup) (acting : Acting) {a b : ℕ} {xs : List ℕ} (h : Fewest (linksAmong acting (linked s)) a b xs) where
+module _ (s : Setup) (acting : Acting) {a b : ℕ} {xs : List ℕ} (h : Fewest (linkedAmong s acting) a b xs) where
   -- a link of a chain among desks that act: they do, and it is a link of the setup
   link-of : (i : ℕ) → i < length xs
       → let d = deskAt a xs i in let u = deskAt a xs (suc i) in (acting d ≡ true) × (acting u ≡ true) × (linked s d u ≡ true)
-  link-of i l = linksAmong-iff acting (linked s) _ _ .0 (link-at (linksAmong acting (linked s)) a b xs (h .chain) i l)
+  link-of i l = linksAmong-iff acting (linked s) _ _ .0 (link-at (linkedAmong s acting) a b xs (h .chain) i l)
 
   -- no file serves two links of a chain with the fewest links among desks that act: the first desk of the one would have a link to the
   -- second of the other

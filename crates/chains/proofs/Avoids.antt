@@ -2,18 +2,23 @@
 -- Assumes nothing.
 use Prim.Native.Nat.{ℕ}
 use mathlib.Core.Path.{_≡_, refl, sym, _∙_}
-use mathlib.Core.Bool.{true, false, not, _||_, true≢false}
+use mathlib.Core.Bool.{Bool, true, false, _||_, true≢false}
 use mathlib.Core.Logic.{_↔_, _≢_}
 use mathlib.Core.List.{List, [], _∷_}
 use borrow.Author.Tests.{eqb-false, ne-eqb, not-true}
 use lib.Dec.{eqb}
 use Rattle.rules.proofs.Lists.{by-test, neither}
-use Rattle.chains.specs.Chains.{Links, others, linksAmong, isChain, isOn, HasRoute}
+use Rattle.chains.specs.Chains.{Links, others, linksAmong, isChain, HasRoute}
 use Rattle.chains.proofs.Chains.{chain-none, chain-first, linksAmong-iff}
 
 -- a desk is among the others exactly where it is not the one
 pub others-iff : (c d : ℕ) → (others c d ≡ true) ↔ (d ≢ c)
 others-iff c d = (λ h. eqb-false d c (not-true (eqb d c) h), λ h. rw (ne-eqb d c h))
+
+-- desk c is one of those that a chain lists
+unfoldable pub isOn : ℕ → List ℕ → Bool
+isOn c [] = false
+isOn c (d ∷ rest) = eqb d c || isOn c rest
 
 module _ (links : Links) (c b : ℕ) where
   -- from a desk that is not c, a chain among the others is a chain that c is not on

@@ -65,6 +65,10 @@ chain-mono {links} {more} has a b [] h = chain-none more a b .1 (chain-none link
 chain-mono {links} {more} has a b (d ∷ xs) h =
     let (l, r) = chain-first links a b d xs .0 h in chain-first more a b d xs .1 (has a d l, chain-mono has d b xs r)
 
+-- where every desk acts, the links among them are all
+abbrev pub everyDesk : Acting
+everyDesk d = true
+
 -- what is tested of a link among the desks that act
 pub linksAmong-iff : (acting : Acting) (links : Links) (d u : ℕ)
     → (linksAmong acting links d u ≡ true) ↔ ((acting d ≡ true) × (acting u ≡ true) × (links d u ≡ true))

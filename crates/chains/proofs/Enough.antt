@@ -41,6 +41,15 @@ module _ {n : ℕ} {links : Links} (among : AmongDesks n links) {a b : ℕ} wher
   fewest-most {xs} f =
       let r = enough-links (record { through = xs; chain = f .chain }) in omega (arith, f .fewest (r .through) (r .chain), r .short)
 
+module _ (links : Links) (a b : ℕ) where
+  -- what follows where the number of links stands below `far` and where it does not follows
+  pub by-way {ℓ} : {C : Type ℓ} → (fewestLinks links a b < far → C) → (far ≤ fewestLinks links a b → C) → C
+  by-way f g = let k = fewestLinks links a b in by-test (ltb k far) (λ t. f (ltb-true k far t)) (λ t. g (ltb-false k far t))
+
+  -- two things neither of which is so below `far`, and both of which are so past it, are one
+  pub one-by-way : {P Q : Type 0} → (fewestLinks links a b < far → (¬ P) × (¬ Q)) → (far ≤ fewestLinks links a b → P × Q) → P ↔ Q
+  one-by-way f g = by-way (λ near. (λ p. absurd (f near .0 p), λ q. absurd (f near .1 q))) (λ none. (λ p. g none .1, λ q. g none .0))
+
 module _ {links : Links} (among : AmongDesks mostDesks links) (a b : ℕ) (l : a < mostDesks) where
   -- the number of links stands below `far` exactly where there is a route
   pub fewestLinks-iff : (fewestLinks links a b < far) ↔ HasRoute links a b
@@ -54,6 +63,14 @@ module _ {links : Links} (among : AmongDesks mostDesks links) (a b : ℕ) (l : a
     λ q r. omega (arith, fewestLinks-iff .1 r),
     λ none. ⊎-elim (λ h. absurd (none (fewestLinks-iff .0 (omega arith)))) (λ q. q) (reach-else among b mostLinks (omega arith) a l),
   )
+
+  -- so there is a route or there is none,
+  pub by-route {ℓ} : {C : Type ℓ} → (HasRoute links a b → C) → ((¬ HasRoute links a b) → C) → C
+  by-route f g = by-way links a b (λ near. f (fewestLinks-iff .0 near)) (λ none. g (λ r. omega (arith, none, fewestLinks-iff .1 r)))
+
+  -- and what is so exactly where there is none is told by the number
+  pub way-tells : {P : Type 0} → P ↔ (¬ HasRoute links a b) → (fewestLinks links a b < far → ¬ P) × (far ≤ fewestLinks links a b → P)
+  way-tells i = (λ near p. i .0 p (fewestLinks-iff .0 near), λ none. i .1 (λ r. omega (arith, none, fewestLinks-iff .1 r)))
 
   -- where there is a route, the report takes the chain that 01 says
   pub report-takes : HasRoute links a b → Taken links a b (chainOf links a b)

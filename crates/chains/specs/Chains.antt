@@ -2,7 +2,7 @@
 -- chain that the report takes. 02, Req 04: the links among the desks that act.
 use Prim.Native.Nat.{ℕ, zero, suc, _-_, _≤_}
 use mathlib.Core.Path.{_≡_}
-use mathlib.Core.Bool.{Bool, true, false, not, _&&_, _||_, cond}
+use mathlib.Core.Bool.{Bool, true, false, not, _&&_, cond}
 use mathlib.Core.List.{List, [], _∷_}
 use lib.Dec.{ltb, eqb}
 use lib.ListN.{getD, length}
@@ -25,21 +25,18 @@ abbrev pub fileFor : Setup → ℕ → ℕ → ℕ
 fileFor s d e = lowest (s .files) (serves s d e)
 
 -- links between desks: whether one runs from the first to the second. 01's links of a setup are `linked` of it. What is said below of
--- the fewest links and of the chain taken is so of links that run among numbers below mostDesks, as those do (`linked-among-most`)
+-- the fewest links and of the chain taken is so of links that run among numbers below mostDesks, as those do (`linked-among-most`, `acting-most`)
 abbrev pub Links : Type 0
 Links = ℕ → ℕ → Bool
 
--- the desks that act, told by a test: every desk, or as in Req 04 "the desks other than C"
+-- the desks that act, told by a test; for Req 04 "the desks other than C"
 abbrev pub Acting : Type 0
 Acting = ℕ → Bool
-
-abbrev pub everyDesk : Acting
-everyDesk d = true
 
 abbrev pub others : ℕ → Acting
 others c d = not (eqb d c)
 
--- the links that run from a desk that acts to a desk that acts; of every desk they are all
+-- the links that run from a desk that acts to a desk that acts
 abbrev pub linksAmong : Acting → Links → Links
 linksAmong acting links d e = acting d && acting e && links d e
 
@@ -47,11 +44,6 @@ linksAmong acting links d e = acting d && acting e && links d e
 unfoldable pub isChain : Links → ℕ → ℕ → List ℕ → Bool
 isChain links a b [] = eqb a b
 isChain links a b (d ∷ rest) = links a d && isChain links d b rest
-
--- desk c is one of those that a chain lists
-unfoldable pub isOn : ℕ → List ℕ → Bool
-isOn c [] = false
-isOn c (d ∷ rest) = eqb d c || isOn c rest
 
 -- the desk at place i of a chain from a, which stands at place 0; for laws
 abbrev pub deskAt : ℕ → List ℕ → ℕ → ℕ

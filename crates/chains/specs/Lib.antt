@@ -1,2 +1,2 @@
--- The chains of links between desks, and the one that the route report takes.
+-- The chains of links between desks, and the one that a report takes.
 pub mod Chains

@@ -1,4 +1,4 @@
--- The list that the report writes shows the route: with A's calls B's last answer is the figure 1, and without them "nothing".
+-- The list that a report writes shows the route: with A's calls B's last answer is the figure 1, and without them "nothing".
 -- Assumes nothing.
 use Prim.Native.Nat.{ℕ, suc, _≤_}
 use mathlib.Core.Path.{_≡_, refl, sym}
@@ -20,10 +20,10 @@ use Rattle.rules.specs.declared.Answer.the-variants.{Nothing}
 use Rattle.rules.proofs.Setups.{accepted-sizes}
 use Rattle.rules.proofs.Stores.{fresh-content}
 use Rattle.views.specs.Machine.{machine}
-use Rattle.chains.specs.Chains.{Links, Acting, linksAmong, processAt, fileFor, isChain, deskAt, Fewest}
+use Rattle.chains.specs.Chains.{Acting, processAt, fileFor, isChain, deskAt, Fewest}
 use Rattle.chains.proofs.Chains.{chain-none, chain-first, linksAmong-own, chain-mono}
 use Rattle.chains.proofs.Shortest.{fewest-rest, fewest-apart, desks-apart}
-use Rattle.chains.proofs.Acts.{ActsBy, LinkActs, link-acts, files-used-apart}
+use Rattle.chains.proofs.Acts.{linkedAmong, ActsBy, LinkActs, link-acts, files-used-apart}
 use Rattle.demand.specs.Routes.{onward, routeCalls}
 use Rattle.demand.specs.Heard.{without, Shows}
 use Rattle.demand.proofs.Goes.{open-answers}
@@ -41,23 +41,19 @@ module _ (s : Setup) where
 
 module _ (s : Setup) (acting : Acting) where
   -- what the first link of a chain among the desks that act has
-  first-acts : {b c d : ℕ} {rest : List ℕ} → Fewest (linksAmong acting (linked s)) c b (d ∷ rest) → LinkActs s c d
+  first-acts : {b c d : ℕ} {rest : List ℕ} → Fewest (linkedAmong s acting) c b (d ∷ rest) → LinkActs s c d
   first-acts {b} {c} {d} {rest} h =
-      let links = linksAmong acting (linked s) in
-      link-acts s c d (linksAmong-own acting (linked s) c d (chain-first links c b d rest .0 (h .chain) .0))
+      link-acts s c d (linksAmong-own acting (linked s) c d (chain-first (linkedAmong s acting) c b d rest .0 (h .chain) .0))
 
 module _ (s : Setup) (e : accepted s ≡ true) (acting : Acting) (b : ℕ) where
-  abbrev links : Links
-  links = linksAmong acting (linked s)
-
   -- from a stage on, the desk at the end hears what the file holds that serves the stage's link
-  onward-heard : (rest : List ℕ) (c d : ℕ) {m : Store} → Fewest links c b (d ∷ rest) → Stage m
+  onward-heard : (rest : List ℕ) (c d : ℕ) {m : Store} → Fewest (linkedAmong s acting) c b (d ∷ rest) → Stage m
       → answersTo (machine s) b m (onward s d (fileFor s c d) rest) ≡ Nothing ∷ readOf (contentOf m (fileFor s c d)) ∷ []
   unfolding onward answersWhere
   onward-heard [] c d {m} h at =
       let k = first-acts s acting h in
       simp (
-        own-call s d (k .to) (chain-none links d b .0 (fewest-rest h .chain)),
+        own-call s d (k .to) (chain-none (linkedAmong s acting) d b .0 (fewest-rest h .chain)),
         open-answers s m (processAt s d) (fileFor s c d) (k .to .exists) (k .by .exists),
         read-out s e at c d k,
       )
@@ -89,7 +85,7 @@ module _ (s : Setup) (acting : Acting) (a b : ℕ) where
       )
 
   -- without desk a's calls the first three are gone, and no other: a chain with the fewest links does not come back to a
-  route-without : (d : ℕ) (rest : List ℕ) → Fewest (linksAmong acting (linked s)) a b (d ∷ rest)
+  route-without : (d : ℕ) (rest : List ℕ) → Fewest (linkedAmong s acting) a b (d ∷ rest)
       → without s a (routeCalls s a (d ∷ rest)) ≡ onward s d (fileFor s a d) rest
   unfolding routeCalls strike
   route-without d rest h =
@@ -101,10 +97,10 @@ module _ (s : Setup) (acting : Acting) (a b : ℕ) where
       )
 
 -- the list along a chain with the fewest links among the desks that act shows the route
-pub route-shows : (s : Setup) → accepted s ≡ true → (acting : Acting) {a b : ℕ} {xs : List ℕ} → a ≢ b → Fewest (linksAmong acting (linked s)) a b xs
+pub route-shows : (s : Setup) → accepted s ≡ true → (acting : Acting) {a b : ℕ} {xs : List ℕ} → a ≢ b → Fewest (linkedAmong s acting) a b xs
     → Shows s a b (routeCalls s a xs)
 unfolding routeCalls answersWhere
-route-shows s e acting {a} {b} {xs = []} other h = absurd (other (chain-none (linksAmong acting (linked s)) a b .0 (h .chain)))
+route-shows s e acting {a} {b} {xs = []} other h = absurd (other (chain-none (linkedAmong s acting) a b .0 (h .chain)))
 route-shows s e acting {a} {b} {xs = d ∷ rest} other h =
     let k = first-acts s acting h in
     let f = fileFor s a d in

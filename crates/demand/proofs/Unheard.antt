@@ -6,9 +6,6 @@ use mathlib.Core.Path.{_≡_, refl}
 use mathlib.Core.Bool.{true}
 use mathlib.Core.List.{List, [], _∷_, _++_}
 use mathlib.Core.Option.{Option, none, some}
-use native.Mathlib.Omega.{arith}
-use borrow.Author.Tests.{ltb-true, ltb-false}
-use lib.Dec.{ltb}
 use Rattle.secrecy.specs.Sets.{Desks, OfEither, of-H, of-L, of-nobody, Closed}
 use Rattle.secrecy.proofs.Closed.{desk-unheard}
 use Rattle.rules.specs.Sizes.{mostDesks}
@@ -17,23 +14,18 @@ use Rattle.rules.specs.Stores.{freshStore}
 use Rattle.rules.specs.Links.{deskOfCall, linked}
 use Rattle.rules.specs.declared.Numbers.{Numbers}
 use Rattle.rules.specs.declared.Setup.{Setup}
-use Rattle.rules.proofs.Lists.{by-test}
 use Rattle.views.specs.Machine.{machine, linkedTo}
 use Rattle.views.proofs.Unwinding.{unwound}
-use Rattle.chains.specs.Chains.{Links, Acting, linksAmong, HasRoute, far, fewestLinks}
+use Rattle.chains.specs.Chains.{Links, Acting, HasRoute}
 use Rattle.chains.proofs.Chains.{chain-none, chain-link, chain-joined, linksAmong-iff}
-use Rattle.chains.proofs.Acts.{acting-most}
-use Rattle.chains.proofs.Enough.{fewestLinks-iff}
+use Rattle.chains.proofs.Acts.{linkedAmong, acting-most}
+use Rattle.chains.proofs.Enough.{by-route}
 use Rattle.demand.specs.Heard.{heard, without}
-use Rattle.demand.proofs.Routes.{Allowed, OfActing}
-
--- no list of the acting desks' calls lets desk b hear whether desk a's are in it
-abbrev pub UnheardAmong : Setup → Acting → ℕ → ℕ → Type 0
-UnheardAmong s acting a b = (acts : List Numbers) → OfActing s acting acts → heard s b acts ≡ heard s b (without s a acts)
+use Rattle.demand.proofs.Routes.{ByActing, OfActing}
 
 module _ (s : Setup) (acting : Acting) (a : ℕ) where
   abbrev links : Links
-  links = linksAmong acting (linked s)
+  links = linkedAmong s acting
 
   -- of the desks that act, those that desk a reaches, itself among them, and those that it does not
   abbrev Reached : Desks
@@ -54,23 +46,20 @@ module _ (s : Setup) (acting : Acting) (a : ℕ) where
             k .1 (record { through = h .1 .through ++ (u ∷ []); chain = on });
       }
 
-  -- a call's desk is reached or it is not, as the number of links tells
-  sides : accepted s ≡ true → a < mostDesks → (n : Numbers) → Allowed s acting n → OfEither (machine s) Reached Unreached n
-  sides e l n allowed = go (deskOfCall s n) refl
+  -- a call's desk is reached or it is not
+  sides : accepted s ≡ true → a < mostDesks → (n : Numbers) → ByActing s acting n → OfEither (machine s) Reached Unreached n
+  sides e l n by = go (deskOfCall s n) refl
     where
       go : (o : Option ℕ) → deskOfCall s n ≡ o → OfEither (machine s) Reached Unreached n
       go none q = of-nobody q
       go (some d) q =
-          let k = fewestLinks links a d in
-          let i = fewestLinks-iff (acting-most s e acting) a d l in
-          let acts = allowed .by d q in
-          by-test (ltb k far) (λ t. of-H (record { who = d; belongs = q; inside = (acts, i .0 (ltb-true k far t)) }))
-          (λ t. of-L (record { who = d; belongs = q; inside = (acts, λ r. omega (arith, i .1 r, ltb-false k far t)) }))
+          by-route (acting-most s e acting) a d l (λ r. of-H (record { who = d; belongs = q; inside = (by d q, r) }))
+          (λ none. of-L (record { who = d; belongs = q; inside = (by d q, none) }))
 
--- so no list of acting desks' calls lets one of them that is not reached hear desk a
+-- so no list of acting desks' calls, whatever its numbers are, lets one of them that is not reached hear desk a
 pub no-route-unheard : (s : Setup) → accepted s ≡ true → (acting : Acting) (a b : ℕ) → a < mostDesks → acting a ≡ true → acting b ≡ true
-    → ¬ HasRoute (linksAmong acting (linked s)) a b → UnheardAmong s acting a b
-no-route-unheard s e acting a b l acts hears unreached calls allowed =
-    let links = linksAmong acting (linked s) in
+    → ¬ HasRoute (linkedAmong s acting) a b → (calls : List Numbers) → OfActing s acting calls → heard s b calls ≡ heard s b (without s a calls)
+no-route-unheard s e acting a b l acts hears unreached calls by =
+    let links = linkedAmong s acting in
     let itself : HasRoute links a a = record { through = []; chain = chain-none links a a .1 refl } in
-    desk-unheard (unwound s e) (closed s acting a) a (acts, itself) calls (λ n i. sides s acting a e l n (allowed n i)) b (hears, unreached) freshStore
+    desk-unheard (unwound s e) (closed s acting a) a (acts, itself) calls (λ n i. sides s acting a e l n (by n i)) b (hears, unreached) freshStore

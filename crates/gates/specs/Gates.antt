@@ -2,19 +2,19 @@
 -- it, and what it promises of the three desks.
 use Prim.Native.Nat.{ℕ, _*_}
 use mathlib.Core.Path.{_≡_}
-use mathlib.Core.Bool.{_||_, cond}
+use mathlib.Core.Bool.{_||_}
 use mathlib.Core.List.{List, [], _∷_}
-use lib.Dec.{ltb, leb, eqb}
+use lib.Dec.{leb, eqb}
 use lib.ListN.{length, take}
 use Rattle.rules.specs.Calls.{callWidth, callsOf}
 use Rattle.rules.specs.Refusals.{Refusal, _gives_, firstOf, refusal15}
 use Rattle.rules.specs.Entries.{unless}
 use Rattle.rules.specs.Links.{linked}
 use Rattle.rules.specs.declared.Setup.{Setup}
-use Rattle.chains.specs.Chains.{Links, others, linksAmong, Taken, far, fewestLinks}
+use Rattle.chains.specs.Chains.{Links, others, linksAmong, Taken}
 use Rattle.demand.specs.Routes.{routeCalls, callsFor}
 use Rattle.demand.specs.Heard.{NoneOf, GuardedBy, Shows}
-use Rattle.routes.specs.Reports.{refusal11OfRoute, withRoute}
+use Rattle.routes.specs.Reports.{refusal11OfRoute, toldBy, withRoute}
 use Rattle.gates.specs.declared.GateAnswer.{GateAnswer}
 use Rattle.gates.specs.declared.GateAnswer.the-variants.{Guarded, Unguarded, Refused}
 
@@ -34,25 +34,24 @@ unfoldable pub gateRefusal : Setup → ℕ → ℕ → ℕ → ℕ → ℕ
 gateRefusal s a b c room = firstOf (gateOrder s a b c room)
 
 -- the links that the report goes by: those "over the desks other than C"
-abbrev pub linksPast : Setup → ℕ → Links
-linksPast s c = linksAmong (others c) (linked s)
+abbrev pub linksAround : Setup → ℕ → Links
+linksAround s c = linksAmong (others c) (linked s)
 
--- the number of calls, for the fewest links k; where no chain runs from a to b among the others, it is "guarded"
+-- the number of calls that show a difference; where no chain runs from a to b among the others, it is "guarded"
 unfoldable pub gated : Setup → ℕ → ℕ → ℕ → ℕ → GateAnswer
 gated s a b c room =
     let r = gateRefusal s a b c room in
-    let k = fewestLinks (linksPast s c) a b in
-    unless r (cond (ltb k far) (Unguarded (callsFor k)) Guarded) (Refused r)
+    unless r (toldBy (linksAround s c) a b Unguarded Guarded) (Refused r)
 
 -- the list is written "by 01's route rules over the desks other than C"; "guarded" and a refusal write nothing
 unfoldable pub roomAfter : Setup → ℕ → ℕ → ℕ → List ℕ → List ℕ
-roomAfter s a b c room = unless (gateRefusal s a b c (length room)) (withRoute s (linksPast s c) a b room) room
+roomAfter s a b c room = unless (gateRefusal s a b c (length room)) (withRoute s (linksAround s c) a b room) room
 
 -- n calls at the front of the room go around desk c
 pub record GoesAround (s : Setup) (a b c n : ℕ) (room : List ℕ) : Type 0 where
   -- a chain from a to b of links among the others; none has fewer, and none of as many has the smaller desk at the first difference
   pub chain : List ℕ
-  pub taken : Taken (linksPast s c) a b chain
+  pub taken : Taken (linksAround s c) a b chain
   -- they are the calls along the chain, "a list without calls from C"
   pub count : n ≡ callsFor (length chain)
   pub list : callsOf (take (n * callWidth) room) ≡ routeCalls s a chain

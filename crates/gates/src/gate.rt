@@ -34,7 +34,8 @@ fn gate_refusal(setup: Setup, a: u32, b: u32, c: u32, room: usize) -> u32
     0
 }
 
-// Entry: whether desk b can hear desk a though desk c makes no call, and the list of calls that shows it. A refused gate writes nothing.
+// Entry: whether desk b can hear desk a though desk c makes no call, and the list of calls that shows it. "Guarded" and a refusal write
+// nothing.
 pub fn gate(setup: Setup, a: u32, b: u32, c: u32, room: &mut [u32]) -> GateAnswer
     ensures { λ r. ⌜ r ≡ gated setup a b c (length (now (room .entry))) ⌝ }
     ensures room { λ _. ⌜ now (room .exit) ≡ roomAfter setup a b c (now (room .entry)) ⌝ }

@@ -7,8 +7,8 @@ use mathlib.Core.Logic.{_↔_, _≢_, ⊎-elim}
 use mathlib.Core.List.{List, []}
 use native.Mathlib.Nat.{eq-or-lt-of-le}
 use native.Mathlib.Omega.{arith}
-use borrow.Author.Tests.{ltb-true, ltb-false, eqb-true, eqb-false, lt-ltb, le-ltb}
-use lib.Dec.{ltb, eqb}
+use borrow.Author.Tests.{eqb-true, eqb-false, lt-ltb, le-ltb}
+use lib.Dec.{eqb}
 use lib.ListN.{length, getD, drop, List·getD-append}
 use Rattle.rules.specs.Sizes.{mostDesks, table}
 use Rattle.rules.specs.Setups.{accepted}
@@ -20,7 +20,7 @@ use Rattle.rules.proofs.Sizes.{length-table, getD-table}
 use Rattle.chains.specs.Chains.{Links, HasRoute, far, fewestLinks, chainOf}
 use Rattle.chains.proofs.Chains.{AmongDesks, chain-none, some-link}
 use Rattle.chains.proofs.Walk.{chainOf-length, chainOf-taken}
-use Rattle.chains.proofs.Enough.{fewestLinks-iff, fewestLinks-none}
+use Rattle.chains.proofs.Enough.{by-way, fewestLinks-iff, fewestLinks-none}
 use Rattle.chains.proofs.Acts.{linked-among-most}
 use Rattle.demand.specs.Routes.{callsFor}
 use Rattle.demand.specs.Heard.{Unheard}
@@ -113,16 +113,14 @@ module _ (s : Setup) (run : List ℕ) (unrefused : gridRefusal s (length run) �
       pub route-iff : (k : ℕ) → 0 < k → (entryFor s run a b ≡ k) ↔ (routed s a b (length room) ≡ Route (callsFor k))
       route-iff k some =
           let fewest = fewestLinks (linked s) a b in
-          by-test (ltb fewest far)
-          (λ t.
-          let near = ltb-true fewest far t in
+          by-way (linked s) a b
+          (λ near.
           let links = same ∙ near-number (linked s) a b near in
           let shown = routed-shown s a b room reported near in (
             λ q. shown ∙ ap (λ (n : ℕ). Route (callsFor n)) (sym links ∙ q),
             λ q. let calls : callsFor fewest ≡ callsFor k = ap (λ (r : RouteAnswer). routeNumbersOf r .1) (sym shown ∙ q) in omega (arith, links, calls),
           ))
-          (λ t.
-          let past = ltb-false fewest far t in (
+          (λ past. (
             λ q. absurd (omega (arith, some, q, same, far-number (linked s) a b past)),
             λ q.
                 let kinds : _≡_ {A = ℕ} 0 1 = ap (λ (r : RouteAnswer). routeNumbersOf r .0) (sym (routed-none s a b room reported past) ∙ q) in

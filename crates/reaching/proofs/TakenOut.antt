@@ -2,19 +2,19 @@
 -- Assumes nothing.
 use Prim.Native.Nat.{ℕ, _+_, _*_, _<_, _≤_}
 use mathlib.Core.Path.{_≡_, refl, ap, sym, _∙_, fun-ext}
-use mathlib.Core.Bool.{true, false, _&&_, and-eq-true-iff, and-false}
+use mathlib.Core.Bool.{false, _&&_, and-eq-true-iff, and-false}
 use mathlib.Core.Logic.{_≢_, ⊎-elim}
 use mathlib.Core.List.{List}
 use native.Mathlib.Nat.{eq-or-lt-of-le}
 use native.Mathlib.Omega.{arith}
-use borrow.Author.Tests.{ltb-true, eqb-true, eqb-false, eq-eqb, ne-eqb}
+use borrow.Author.Tests.{ltb-true, eqb-true, eqb-false}
 use lib.Dec.{ltb, eqb}
 use lib.ListN.{length, getD, set, length-set}
 use lib.Seq.{getD-set-same, getD-set-other}
 use Rattle.rules.specs.Sizes.{mostDesks}
 use Rattle.rules.proofs.Lists.{by-test, set-holds}
 use Rattle.chains.specs.Chains.{others, linksAmong}
-use Rattle.reaching.specs.Tables.{isMarked, mostPairs, linksIn}
+use Rattle.reaching.specs.Tables.{mostPairs, linksIn}
 use Rattle.reaching.proofs.Linked.{linksIn-at}
 
 -- desk c is taken out of a table as far as the desks before n: no link is marked from it to them or to it from them

@@ -16,28 +16,29 @@ use Rattle.reaching.proofs.Linked.{getD-inside}
 use Rattle.reaching.proofs.Nearer.{reach-long}
 use Rattle.routes.specs.Writers.{Asked, walked, Ready}
 
-module _ (a b : ℕ) (links : List ℕ) {to : List ℕ} (reached : to ≡ reach (linksIn links) b mostLinks) (l : a < mostDesks) where
-  pub fewest-told : getD to a 0 ≡ fewestLinks (linksIn links) a b
-  fewest-told = rw reached (getD-inside (reach (linksIn links) b mostLinks) a 0 far (omega (arith, reach-long (linksIn links) b mostLinks)))
+module _ (a b : ℕ) (links : List ℕ) {to : List ℕ} (reached : to ≡ reach (linksIn links) b mostLinks) where
+  pub fewest-told : a < mostDesks → getD to a 0 ≡ fewestLinks (linksIn links) a b
+  fewest-told l = rw reached (getD-inside (reach (linksIn links) b mostLinks) a 0 far (omega (arith, reach-long (linksIn links) b mostLinks)))
 
-  pub walked-is : walked links to a ≡ chainOf (linksIn links) a b
+  pub walked-is : a < mostDesks → walked links to a ≡ chainOf (linksIn links) a b
   unfolding chainOf
-  walked-is = rw (fewest-told, reached)
+  walked-is l = rw (fewest-told l, reached)
 
   pub ready : {s : Setup} {room : List ℕ} → Asked s links a b room → getD to a 0 < far → Ready s links to a room
   ready {s} h near =
       let within : AmongDesks mostDesks (linksIn links) = record { ends = λ d e k. linked-among-most s (h .setup) .ends d e (h .own d e k) } in
-      let taken = chainOf-taken within a b l (omega (arith, fewest-told)) in
+      let fewest = fewest-told (h .from) in
+      let taken = chainOf-taken within a b (h .from) (omega (arith, fewest)) in
       let chain = chainOf (linksIn links) a b in
       record {
         setup = h .setup;
         long = h .long;
         own = h .own;
         numbers = rw reached (reach-long (linksIn links) b mostLinks);
-        from = l;
+        from = h .from;
         end = b;
-        chain = rw walked-is (taken .of-fewest .chain);
-        some = omega (arith, fewest-told, some-link (linksIn links) a b chain (taken .of-fewest .chain) (h .apart), chainOf-length (linksIn links) a b);
+        chain = rw (walked-is (h .from)) (taken .of-fewest .chain);
+        some = omega (arith, fewest, some-link (linksIn links) a b chain (taken .of-fewest .chain) (h .apart), chainOf-length (linksIn links) a b);
         few = omega arith;
         spacious = h .spacious;
       }

@@ -3,22 +3,22 @@
 use Prim.Native.Nat.{ℕ, _*_, _<_, _≤_}
 use mathlib.Core.Path.{_≡_, refl, ap, sym, _∙_}
 use mathlib.Core.Bool.{true}
-use mathlib.Core.Logic.{_↔_, _≢_}
+use mathlib.Core.Logic.{_≢_}
 use mathlib.Core.List.{List, _++_}
 use native.Mathlib.Omega.{arith}
-use borrow.Author.Tests.{ltb-true, ltb-false, leb-false, eqb-false, not-false, lt-ltb, le-ltb, lt-leb, ne-eqb}
-use lib.Dec.{ltb}
+use borrow.Author.Tests.{ltb-false, leb-false, eqb-false, not-false, lt-ltb, le-ltb, lt-leb, ne-eqb}
 use lib.ListN.{length, drop}
 use Rattle.rules.specs.Setups.{accepted}
 use Rattle.rules.specs.Calls.{callWidth, inQuads}
 use Rattle.rules.specs.Links.{linked}
 use Rattle.rules.specs.declared.Setup.{Setup}
-use Rattle.rules.proofs.Lists.{by-test, neither}
+use Rattle.rules.proofs.Lists.{neither}
 use Rattle.rules.proofs.Refusals.{unmet-iff}
 use Rattle.rules.proofs.Told.{unless-refused}
 use Rattle.chains.specs.Chains.{Links, mostLinks, far, fewestLinks, chainOf}
+use Rattle.chains.proofs.Enough.{by-way}
 use Rattle.demand.specs.Routes.{routeCalls, callsFor}
-use Rattle.routes.specs.Reports.{mostRouteNumbers, routeOrder, routeRefusal, withRoute, routed, roomAfter}
+use Rattle.routes.specs.Reports.{mostRouteNumbers, routeOrder, routeRefusal, toldBy, withRoute, routed, roomAfter}
 use Rattle.routes.specs.Writers.{callsAlong}
 use Rattle.routes.specs.declared.RouteAnswer.the-variants.{NoRoute, Route, Refused}
 
@@ -29,42 +29,41 @@ most-calls = refl
 pub most-numbers : mostRouteNumbers ≡ 244
 most-numbers = refl
 
-module _ (links : Links) (a b : ℕ) where
-  -- where there is no chain there are no calls, and nothing is written
-  module _ (h : far ≤ fewestLinks links a b) where
-    pub calls-none : callsAlong links a b ≡ 0
-    unfolding callsAlong
-    calls-none = rw (le-ltb (fewestLinks links a b) far h)
+module _ {A : Type 0} (links : Links) (a b : ℕ) (some : ℕ → A) (none : A) where
+  -- what is told of a way, by whether there is a chain
+  pub told-none : far ≤ fewestLinks links a b → toldBy links a b some none ≡ none
+  unfolding toldBy
+  told-none h = rw (le-ltb (fewestLinks links a b) far h)
 
-    pub with-none : (s : Setup) (room : List ℕ) → withRoute s links a b room ≡ room
-    unfolding withRoute
-    with-none s room = rw (le-ltb (fewestLinks links a b) far h)
+  pub told-shown : fewestLinks links a b < far → toldBy links a b some none ≡ some (callsFor (fewestLinks links a b))
+  unfolding toldBy
+  told-shown h = rw (lt-ltb (fewestLinks links a b) far h)
 
-  -- and else the list is
-  module _ (h : fewestLinks links a b < far) where
-    pub calls-shown : callsAlong links a b ≡ callsFor (fewestLinks links a b)
-    unfolding callsAlong
-    calls-shown = rw (lt-ltb (fewestLinks links a b) far h)
+module _ {A : Type 0} (links : Links) (a b : ℕ) (some : ℕ → A) (none : A) where
+  -- the number of calls, which is 0 where there is none, tells which it is
+  pub none-told : callsAlong links a b ≡ 0 → toldBy links a b some none ≡ none
+  none-told e = by-way links a b (λ near. absurd (omega (arith, e, told-shown links a b (λ n. n) 0 near))) (told-none links a b some none)
 
-    pub with-shown : (s : Setup) (room : List ℕ)
-        → withRoute s links a b room ≡ inQuads (routeCalls s a (chainOf links a b)) ++ drop (callsFor (fewestLinks links a b) * callWidth) room
-    unfolding withRoute
-    with-shown s room = rw (lt-ltb (fewestLinks links a b) far h)
+  pub some-told : callsAlong links a b ≢ 0 → toldBy links a b some none ≡ some (callsAlong links a b)
+  some-told e =
+      by-way links a b (λ near. told-shown links a b some none near ∙ ap some (sym (told-shown links a b (λ n. n) 0 near)))
+      (λ past. absurd (e (told-none links a b (λ n. n) 0 past)))
 
-  -- what follows where there is a chain and where there is none follows
-  pub by-way {ℓ} : {C : Type ℓ} → (fewestLinks links a b < far → C) → (far ≤ fewestLinks links a b → C) → C
-  by-way f g = let k = fewestLinks links a b in by-test (ltb k far) (λ t. f (ltb-true k far t)) (λ t. g (ltb-false k far t))
+module _ (s : Setup) (a b : ℕ) (room : List ℕ) where
+  -- what is left in the room
+  pub with-none : (links : Links) → far ≤ fewestLinks links a b → withRoute s links a b room ≡ room
+  unfolding withRoute
+  with-none links = told-none links a b _ room
 
-  -- two things neither of which is so where there is a chain, and both where there is none, are one
-  pub one-by-way : {P Q : Type 0} → (fewestLinks links a b < far → (¬ P) × (¬ Q)) → (far ≤ fewestLinks links a b → P × Q) → P ↔ Q
-  one-by-way f g = by-way (λ near. (λ p. absurd (f near .0 p), λ q. absurd (f near .1 q))) (λ none. (λ p. g none .1, λ q. g none .0))
+  pub with-shown : (links : Links) → fewestLinks links a b < far
+      → withRoute s links a b room ≡ inQuads (routeCalls s a (chainOf links a b)) ++ drop (callsFor (fewestLinks links a b) * callWidth) room
+  unfolding withRoute
+  with-shown links = told-shown links a b _ room
 
-  -- the number of calls tells which it is
-  pub none-along : callsAlong links a b ≡ 0 → far ≤ fewestLinks links a b
-  none-along e = by-way (λ near. absurd (omega (arith, e, calls-shown near))) (λ none. none)
-
-  pub some-along : callsAlong links a b ≢ 0 → fewestLinks links a b < far
-  some-along e = by-way (λ near. near) (λ none. absurd (e (calls-none none)))
+  -- a way by some links is the way by any that they are
+  pub way-by : {links own : Links} → links ≡ own → {n : ℕ} {after : List ℕ} → (n ≡ callsAlong links a b) × (after ≡ withRoute s links a b room)
+      → (n ≡ callsAlong own a b) × (after ≡ withRoute s own a b room)
+  way-by q h = (h .0 ∙ ap (λ (l : Links). callsAlong l a b) q, h .1 ∙ ap (λ (l : Links). withRoute s l a b room) q)
 
 -- a route that is not refused has an accepted setup, two of its desks that are not equal, and room for the longest list
 pub record Sound (s : Setup) (a b room : ℕ) : Type 0 where
@@ -105,18 +104,16 @@ module _ (s : Setup) (a b : ℕ) (room : List ℕ) where
 
   -- and else the way by the setup's links is told, and written if there is one
   module _ (e : routeRefusal s a b (length room) ≡ 0) where
-    pub room-way : roomAfter s a b room ≡ withRoute s (linked s) a b room
-    unfolding roomAfter
-    room-way = rw e
+    pub routed-is : routed s a b (length room) ≡ toldBy (linked s) a b Route NoRoute
+    unfolding routed
+    routed-is = rw e
 
-    -- links that are the setup's leave the report's room
-    pub room-left : {links : Links} → links ≡ linked s → {after : List ℕ} → after ≡ withRoute s links a b room → after ≡ roomAfter s a b room
-    room-left q w = w ∙ ap (λ (l : Links). withRoute s l a b room) q ∙ sym room-way
+    pub room-is : roomAfter s a b room ≡ withRoute s (linked s) a b room
+    unfolding roomAfter
+    room-is = rw e
 
     pub routed-none : far ≤ fewestLinks (linked s) a b → routed s a b (length room) ≡ NoRoute
-    unfolding routed
-    routed-none h = rw (e, le-ltb (fewestLinks (linked s) a b) far h)
+    routed-none h = routed-is ∙ told-none (linked s) a b Route NoRoute h
 
     pub routed-shown : fewestLinks (linked s) a b < far → routed s a b (length room) ≡ Route (callsFor (fewestLinks (linked s) a b))
-    unfolding routed
-    routed-shown h = rw (e, lt-ltb (fewestLinks (linked s) a b) far h)
+    routed-shown h = routed-is ∙ told-shown (linked s) a b Route NoRoute h

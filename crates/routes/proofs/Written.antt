@@ -10,7 +10,6 @@ use lib.ListN.{length, getD, drop, length-append}
 use Rattle.rules.specs.Sizes.{mostDesks, mostFiles}
 use Rattle.rules.specs.Setups.{accepted}
 use Rattle.rules.specs.Calls.{callWidth, inQuads}
-use Rattle.rules.specs.Links.{linked}
 use Rattle.rules.specs.declared.Numbers.{Numbers}
 use Rattle.rules.specs.declared.Setup.{Setup}
 use Rattle.rules.proofs.Setups.{accepted-sizes}
@@ -23,11 +22,7 @@ use Rattle.chains.proofs.Walk.{walk-length}
 use Rattle.reaching.specs.Tables.{linksIn}
 use Rattle.demand.specs.Routes.{startCalls, middleCalls, endCalls, onward, routeCalls, callsFor}
 use Rattle.demand.proofs.Routes.{routeCalls-length}
-use Rattle.routes.specs.Writers.{walked, Ready}
-
--- links that are all a setup's own
-abbrev pub Own : Setup → Links → Type 0
-Own s links = (d e : ℕ) → links d e ≡ true → linked s d e ≡ true
+use Rattle.routes.specs.Writers.{Own, walked, Ready}
 
 -- k links lead on from desk d, file f lies before d, and from call i on the room has place for their calls
 pub record Left (links : Links) (to room : List ℕ) (i d f k : ℕ) : Type 0 where

@@ -37,19 +37,22 @@ routeOrder s a b room = refusal15 s ∷ refusal12 s a b ∷ refusal13 a b ∷ re
 unfoldable pub routeRefusal : Setup → ℕ → ℕ → ℕ → ℕ
 routeRefusal s a b room = firstOf (routeOrder s a b room)
 
--- "The answer gives the number of calls", for the fewest links k; where no chain runs from a to b it is "no route"
+-- of some links, for the fewest links k from a to b: `some` of the number of calls that show it, or `none` where there is no chain
+unfoldable pub toldBy : {A : Type 0} → Links → ℕ → ℕ → (ℕ → A) → A → A
+toldBy links a b some none =
+    let k = fewestLinks links a b in
+    cond (ltb k far) (some (callsFor k)) none
+
+-- "The answer gives the number of calls"; where no chain runs from a to b it is "no route"
 unfoldable pub routed : Setup → ℕ → ℕ → ℕ → RouteAnswer
 routed s a b room =
     let r = routeRefusal s a b room in
-    let k = fewestLinks (linked s) a b in
-    unless r (cond (ltb k far) (Route (callsFor k)) NoRoute) (Refused r)
+    unless r (toldBy (linked s) a b Route NoRoute) (Refused r)
 
--- the list along the chain that is taken by some links fills the front of the room, and what lies past it keeps its values; where there is
--- no chain nothing is written
+-- the list along the chain that is taken fills the front of the room, and what lies past it keeps its values; where there is no chain
+-- nothing is written
 unfoldable pub withRoute : Setup → Links → ℕ → ℕ → List ℕ → List ℕ
-withRoute s links a b room =
-    let k = fewestLinks links a b in
-    cond (ltb k far) (inQuads (routeCalls s a (chainOf links a b)) ++ drop (callsFor k * callWidth) room) room
+withRoute s links a b room = toldBy links a b (λ n. inQuads (routeCalls s a (chainOf links a b)) ++ drop (n * callWidth) room) room
 
 -- so "No route" writes nothing; nor does a refusal
 unfoldable pub roomAfter : Setup → ℕ → ℕ → List ℕ → List ℕ

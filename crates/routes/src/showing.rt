@@ -1,4 +1,4 @@
-// Showing a way by a table of links: the report's links, or those with a desk taken out.
+// Showing a way by a table of links: a setup's, or those with a desk taken out.
 use crate::CALLS_AT_END;
 use crate::CALLS_OF_LINK;
 use crate::writing::write_route;

@@ -1,5 +1,5 @@
--- 01, "Refusal numbers": what each is given for, and the orders in which they are judged. Those of lists, routes, grids and texts stand in
--- `lists`, `routes`, `grids` and `lines`.
+-- 01, "Refusal numbers": what each is given for, and the orders in which they are judged. Those of lists, routes, gates, grids and texts
+-- stand in `lists`, `routes`, `gates`, `grids` and `lines`.
 use Prim.Native.Nat.{ℕ, _+_, _*_}
 use mathlib.Core.Bool.{Bool, not, _&&_, _||_, cond}
 use mathlib.Core.List.{List, [], _∷_}

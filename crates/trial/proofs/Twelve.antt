@@ -24,7 +24,7 @@ use Rattle.lists.specs.Lists.{answerWidth, inNumbers, endOf, answersOver, refus
 use Rattle.lists.proofs.Lists.{list-judged, listed-runs, room-runs}
 use Rattle.chains.specs.Chains.{lowest, nearer, reach, nextDesk, walk, chainOf}
 use Rattle.demand.specs.Routes.{onward, routeCalls}
-use Rattle.routes.specs.Reports.{routeRefusal, withRoute, routed, roomAfter}
+use Rattle.routes.specs.Reports.{routeRefusal, toldBy, withRoute, routed, roomAfter}
 use Rattle.views.specs.Case8.{setup8}
 use Rattle.trial.specs.Trials.{setupQ, inUse, inPairs, answersRoom, writtenInto, Answers, Leaves, Reports, Case, ComesOut, EachComesOut, case1, twelve}
 
@@ -33,7 +33,7 @@ unfoldable computes : Bool
 unfolding every someBelow table withinSizes entryFits rowFits rightsFit desksFit classesFit accepted givenRight setupFrom
     someFrom slicesMatch setupRefusal acceptance mayRead mayWrite freshStore holderFits markFits callOf goesThrough effect says
     answerTo nextStore numbersRefusal ran after answersWhere callsOf inQuads inNumbers hasProcess linked lowest nearer reach
-    nextDesk walk chainOf onward routeCalls routeRefusal withRoute routed roomAfter inUse inPairs Reports
+    nextDesk walk chainOf onward routeCalls routeRefusal toldBy withRoute routed roomAfter inUse inPairs Reports
 computes = true
 
 -- neither 10 nor 11 is held against the list

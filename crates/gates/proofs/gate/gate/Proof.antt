@@ -14,12 +14,11 @@ use Rattle.rules.proofs.Setups.{accepted-sizes}
 use Rattle.chains.specs.Chains.{Links, others, linksAmong}
 use Rattle.chains.proofs.Chains.{linksAmong-own}
 use Rattle.reaching.specs.Tables.{mostPairs, linksIn}
-use Rattle.routes.specs.Writers.{callsAlong}
-use Rattle.routes.proofs.Reports.{none-along, some-along, calls-shown}
-use Rattle.gates.specs.Gates.{gateRefusal, linksPast, gated, roomAfter, gateNumbersOf, GateTells}
+use Rattle.routes.proofs.Reports.{none-told, some-told, way-by}
+use Rattle.gates.specs.Gates.{gateRefusal, linksAround, gated, roomAfter, gateNumbersOf, GateTells}
 use Rattle.gates.specs.declared.GateAnswer.{GateAnswer}
-use Rattle.gates.specs.declared.GateAnswer.the-variants.{Unguarded}
-use Rattle.gates.proofs.Whole.{Sound, gate-sound, gated-refused, room-refused, room-left, gated-none, gated-shown}
+use Rattle.gates.specs.declared.GateAnswer.the-variants.{Guarded, Unguarded}
+use Rattle.gates.proofs.Whole.{Sound, gate-sound, gated-refused, room-refused, gated-is, room-is}
 use Rattle.gates.proofs.Told.{gate-tells}
 use Rattle.gates.proofs.gate.gate.Statement.{statement}
 use Rattle.gates.proofs.gate.gate.Tie as tie
@@ -32,11 +31,11 @@ start c = c .before .before
 abbrev at-links : tie.After-take-out → tie.After-links-of
 at-links c = c .before .before
 
-abbrev at-past : tie.After-show-route-arg → tie.After-take-out
-at-past c = c .before .before .before
+abbrev at-out : tie.After-show-route-arg → tie.After-take-out
+at-out c = c .before .before .before
 
 abbrev at-test : tie.After-show-route → tie.Else1
-at-test c = at-links (at-past (c .before)) .before
+at-test c = at-links (at-out (c .before)) .before
 
 abbrev at-way : tie.After-slice-known2 → tie.After-show-route
 at-way c = c .before .before
@@ -65,10 +64,10 @@ sound : (c : tie.Else1) → (let at = start (c .before) .args in Sound (at .setu
 sound c = gate-sound _ _ _ _ _ (unrefused c)
 
 desks : (c : tie.Else1) → (start (c .before) .args .a < mostDesks) × (start (c .before) .args .b < mostDesks)
-desks c = let h = sound c in let sizes = accepted-sizes _ (h .setup) in omega (arith, h .from, h .onto, sizes .of-desks .high)
+desks c = let h = sound c .route in let sizes = accepted-sizes _ (h .setup) in omega (arith, h .from, h .onto, sizes .of-desks .high)
 
 links-of-requires : tie.Need-links-of-requires
-links-of-requires c κs = sound c .setup
+links-of-requires c κs = sound c .route .setup
 
 slice-aggregate-take-out : tie.Need-slice-aggregate-take-out
 slice-aggregate-take-out c = search needs
@@ -78,13 +77,13 @@ take-out-requires c κs =
     let made = c .before in
     let long : length (made .links-of .result) ≡ mostPairs = search needs in
     let h = sound (made .before) in
-    (long, omega (arith, h .past, accepted-sizes _ (h .setup) .of-desks .high))
+    (long, omega (arith, h .gate, accepted-sizes _ (h .route .setup) .of-desks .high))
 
 -- the table with the gate desk taken out, and its links: those among the other desks
 abbrev table : tie.After-take-out → List ℕ
 table c = c .take-out .last .0
 
-own : (c : tie.After-take-out) → (let at = start (at-links c .before .before) .args in linksIn (table c) ≡ linksPast (at .setup) (at .c))
+own : (c : tie.After-take-out) → (let at = start (at-links c .before .before) .args in linksIn (table c) ≡ linksAround (at .setup) (at .c))
 own c =
     let at = start (at-links c .before .before) .args in
     c .take-out .ensures ∙ ap (λ (l : Links). linksAmong (others (at .c)) l) (at-links c .links-of .ensures)
@@ -94,15 +93,15 @@ slice-aggregate-show-route c = search needs
 
 show-route-requires : tie.Need-show-route-requires
 show-route-requires c κs =
-    let past = at-past c in
-    let test = at-links past .before in
+    let out = at-out c in
+    let test = at-links out .before in
     let at = start (test .before) .args in
-    let h = sound test in
-    let long : length (table past) ≡ mostPairs = search needs in
+    let h = sound test .route in
+    let long : length (table out) ≡ mostPairs = search needs in
     record {
       setup = h .setup;
       long = long;
-      own = λ d e k. linksAmong-own (others (at .c)) (linked (at .setup)) d e (rw (own past) at k);
+      own = λ d e k. linksAmong-own (others (at .c)) (linked (at .setup)) d e (rw (own out) at k);
       from = desks test .0;
       onto = desks test .1;
       apart = h .apart;
@@ -115,32 +114,26 @@ same-length c = search needs
 same-length-2 : tie.Need-same-length-2
 same-length-2 c = search needs
 
--- what the way told
-told : (c : tie.After-show-route)
-    → (let at = start (at-test c .before) .args in c .show-route .result ≡ callsAlong (linksPast (at .setup) (at .c)) (at .a) (at .b))
-told c =
-    let at = start (at-test c .before) .args in
-    c .show-route .ensures .0 ∙ ap (λ (l : Links). callsAlong l (at .a) (at .b)) (own (at-past (c .before)))
-
 returns-2 : tie.Need-returns-2
 returns-2 c =
-    let way = at-way (c .before) in
-    let at = start (at-test way .before) .args in
-    let e = unrefused (at-test way) in
-    let h = none-along (linksPast (at .setup) (at .c)) (at .a) (at .b) (sym (told way) ∙ c .if2 .taken) in
-    promised (at .setup) (at .a) (at .b) (at .c) (at .room .now) (sym (gated-none (at .setup) (at .a) (at .b) (at .c) (at .room .now) e h))
-    (room-left (at .setup) (at .a) (at .b) (at .c) (at .room .now) e (own (at-past (way .before))) (way .show-route .ensures .1))
+    let show = at-way (c .before) in
+    let at = start (at-test show .before) .args in
+    let e = unrefused (at-test show) in
+    let way = way-by (at .setup) (at .a) (at .b) (at .room .now) (own (at-out (show .before))) (show .show-route .ensures) in
+    let none = none-told (linksAround (at .setup) (at .c)) (at .a) (at .b) Unguarded Guarded (sym (way .0) ∙ c .if2 .taken) in
+    promised (at .setup) (at .a) (at .b) (at .c) (at .room .now) (sym (gated-is (at .setup) (at .a) (at .b) (at .c) (at .room .now) e ∙ none))
+    (way .1 ∙ sym (room-is (at .setup) (at .a) (at .b) (at .c) (at .room .now) e))
 
 returns-3 : tie.Need-returns-3
 returns-3 c =
-    let way = at-way (c .before) in
-    let at = start (at-test way .before) .args in
-    let e = unrefused (at-test way) in
-    let links = linksPast (at .setup) (at .c) in
-    let h = some-along links (at .a) (at .b) (λ z. c .if2 .left (told way ∙ z)) in
-    let calls = told way ∙ calls-shown links (at .a) (at .b) h in
-    promised (at .setup) (at .a) (at .b) (at .c) (at .room .now) (ap Unguarded calls ∙ sym (gated-shown (at .setup) (at .a) (at .b) (at .c) (at .room .now) e h))
-    (room-left (at .setup) (at .a) (at .b) (at .c) (at .room .now) e (own (at-past (way .before))) (way .show-route .ensures .1))
+    let show = at-way (c .before) in
+    let at = start (at-test show .before) .args in
+    let e = unrefused (at-test show) in
+    let way = way-by (at .setup) (at .a) (at .b) (at .room .now) (own (at-out (show .before))) (show .show-route .ensures) in
+    let some = some-told (linksAround (at .setup) (at .c)) (at .a) (at .b) Unguarded Guarded (λ z. c .if2 .left (way .0 ∙ z)) in
+    promised (at .setup) (at .a) (at .b) (at .c) (at .room .now)
+    (ap Unguarded (way .0) ∙ sym (gated-is (at .setup) (at .a) (at .b) (at .c) (at .room .now) e ∙ some))
+    (way .1 ∙ sym (room-is (at .setup) (at .a) (at .b) (at .c) (at .room .now) e))
 
 pub gate-spec : {M : Type 1} → statement M
 gate-spec =

@@ -11,24 +11,25 @@ use Rattle.rules.specs.Sizes.{mostDesks}
 use Rattle.rules.specs.Links.{linked}
 use Rattle.rules.specs.declared.Setup.{Setup}
 use Rattle.rules.proofs.Setups.{accepted-sizes}
-use Rattle.chains.specs.Chains.{Links}
 use Rattle.reaching.specs.Tables.{mostPairs, linksIn}
 use Rattle.routes.specs.Reports.{routeRefusal, routed, roomAfter, routeNumbersOf}
-use Rattle.routes.specs.Writers.{callsAlong}
 use Rattle.routes.specs.Demand3.{Demand3}
 use Rattle.routes.specs.declared.RouteAnswer.{RouteAnswer}
-use Rattle.routes.specs.declared.RouteAnswer.the-variants.{Route}
-use Rattle.routes.proofs.Reports.{none-along, some-along, calls-shown, Sound, route-sound, routed-refused, room-refused, room-left, routed-none, routed-shown}
+use Rattle.routes.specs.declared.RouteAnswer.the-variants.{NoRoute, Route}
+use Rattle.routes.proofs.Reports.{none-told, some-told, way-by, Sound, route-sound, routed-refused, room-refused, routed-is, room-is}
 use Rattle.routes.proofs.Demands.{demand3-met}
 use Rattle.routes.proofs.report.report.Statement.{statement}
 use Rattle.routes.proofs.report.report.Tie as tie
 
--- The places: from the refusal the start, from the way's call the links, and from the end the way.
+-- The places: from the refusal the start, from the way's call the links, from the way the test of the refusal, and from the end the way.
 abbrev start : tie.After-route-refusal → tie.Start
 start c = c .before .before
 
 abbrev at-links : tie.After-show-route-arg → tie.After-links-of
 at-links c = c .before .before
+
+abbrev at-test : tie.After-show-route → tie.Else1
+at-test c = at-links (c .before) .before
 
 abbrev at-way : tie.After-slice-known2 → tie.After-show-route
 at-way c = c .before .before
@@ -90,34 +91,25 @@ same-length c = search needs
 same-length-2 : tie.Need-same-length-2
 same-length-2 c = search needs
 
--- what the way told
-told : (c : tie.After-show-route)
-    → (let at = start (at-links (c .before) .before .before) .args in c .show-route .result ≡ callsAlong (linked (at .setup)) (at .a) (at .b))
-told c =
-    let made = at-links (c .before) in
-    let at = start (made .before .before) .args in
-    c .show-route .ensures .0 ∙ ap (λ (l : Links). callsAlong l (at .a) (at .b)) (own made)
-
 returns-2 : tie.Need-returns-2
 returns-2 c =
-    let way = at-way (c .before) in
-    let made = at-links (way .before) in
-    let at = start (made .before .before) .args in
-    let e = unrefused (made .before) in
-    let h = none-along (linked (at .setup)) (at .a) (at .b) (sym (told way) ∙ c .if2 .taken) in
-    promised (at .setup) (at .a) (at .b) (at .room .now) (sym (routed-none (at .setup) (at .a) (at .b) (at .room .now) e h))
-    (room-left (at .setup) (at .a) (at .b) (at .room .now) e (own made) (way .show-route .ensures .1))
+    let show = at-way (c .before) in
+    let at = start (at-test show .before) .args in
+    let e = unrefused (at-test show) in
+    let way = way-by (at .setup) (at .a) (at .b) (at .room .now) (own (at-links (show .before))) (show .show-route .ensures) in
+    let none = none-told (linked (at .setup)) (at .a) (at .b) Route NoRoute (sym (way .0) ∙ c .if2 .taken) in
+    promised (at .setup) (at .a) (at .b) (at .room .now) (sym (routed-is (at .setup) (at .a) (at .b) (at .room .now) e ∙ none))
+    (way .1 ∙ sym (room-is (at .setup) (at .a) (at .b) (at .room .now) e))
 
 returns-3 : tie.Need-returns-3
 returns-3 c =
-    let way = at-way (c .before) in
-    let made = at-links (way .before) in
-    let at = start (made .before .before) .args in
-    let e = unrefused (made .before) in
-    let h = some-along (linked (at .setup)) (at .a) (at .b) (λ z. c .if2 .left (told way ∙ z)) in
-    let calls = told way ∙ calls-shown (linked (at .setup)) (at .a) (at .b) h in
-    promised (at .setup) (at .a) (at .b) (at .room .now) (ap Route calls ∙ sym (routed-shown (at .setup) (at .a) (at .b) (at .room .now) e h))
-    (room-left (at .setup) (at .a) (at .b) (at .room .now) e (own made) (way .show-route .ensures .1))
+    let show = at-way (c .before) in
+    let at = start (at-test show .before) .args in
+    let e = unrefused (at-test show) in
+    let way = way-by (at .setup) (at .a) (at .b) (at .room .now) (own (at-links (show .before))) (show .show-route .ensures) in
+    let some = some-told (linked (at .setup)) (at .a) (at .b) Route NoRoute (λ z. c .if2 .left (way .0 ∙ z)) in
+    promised (at .setup) (at .a) (at .b) (at .room .now) (ap Route (way .0) ∙ sym (routed-is (at .setup) (at .a) (at .b) (at .room .now) e ∙ some))
+    (way .1 ∙ sym (room-is (at .setup) (at .a) (at .b) (at .room .now) e))
 
 pub report-spec : {M : Type 1} → statement M
 report-spec =

@@ -7,7 +7,7 @@ use lib.ListN.{getD}
 use borrow.Author.Needs.{needs}
 use Rattle.chains.specs.Chains.{far, fewestLinks}
 use Rattle.reaching.specs.Tables.{linksIn}
-use Rattle.routes.proofs.Reports.{calls-none, with-none, calls-shown, with-shown}
+use Rattle.routes.proofs.Reports.{told-none, told-shown, with-none, with-shown}
 use Rattle.routes.proofs.Reached.{fewest-told, walked-is, ready}
 use Rattle.routes.proofs.showing.show_route.Statement.{statement}
 use Rattle.routes.proofs.showing.show_route.Tie as tie
@@ -34,7 +34,7 @@ returns c =
     let at = start (c .before) .args in
     let links = linksIn (at .links .now) in
     let h : far ≤ fewestLinks links (at .a) (at .b) = omega (arith, counted (c .before), c .if1 .taken) in
-    (sym (calls-none links (at .a) (at .b) h), sym (with-none links (at .a) (at .b) h (at .setup) (at .room .now)))
+    (sym (told-none links (at .a) (at .b) (λ n. n) 0 h), sym (with-none (at .setup) (at .a) (at .b) (at .room .now) links h))
 
 slice-aggregate-write-route : tie.Need-slice-aggregate-write-route
 slice-aggregate-write-route c = search needs
@@ -43,7 +43,7 @@ write-route-requires : tie.Need-write-route-requires
 write-route-requires c κs =
     let number = at-number c in
     let at = start (number .before) in
-    ready (at .args .a) (at .args .b) (at .args .links .now) (number .before .reach .ensures) (at .pre .from) (at .pre) (number .if1 .left)
+    ready (at .args .a) (at .args .b) (at .args .links .now) (number .before .reach .ensures) (at .pre) (number .if1 .left)
 
 cast-calls : tie.Need-cast-calls
 cast-calls c = search needs
@@ -69,8 +69,10 @@ returns-2 c =
     let links = linksIn (at .args .links .now) in
     let same = counted (number .before) in
     let h : fewestLinks links (at .args .a) (at .args .b) < far = omega (arith, same, number .if1 .left) in
-    let chain = walked-is (at .args .a) (at .args .b) (at .args .links .now) (number .before .reach .ensures) (at .pre .from) in
-    (rw (calls-shown links (at .args .a) (at .args .b) h) (simp same), rw (with-shown links (at .args .a) (at .args .b) h (at .args .setup) room) (write .write-route .ensures ∙ rw (chain, same)))
+    let chain = walked-is (at .args .a) (at .args .b) (at .args .links .now) (number .before .reach .ensures) (at .pre .from) in (
+      rw (told-shown links (at .args .a) (at .args .b) (λ n. n) 0 h) (simp same),
+      rw (with-shown (at .args .setup) (at .args .a) (at .args .b) room links h) (write .write-route .ensures ∙ rw (chain, same)),
+    )
 
 pub show-route-spec : {M : Type 1} → statement M
 show-route-spec =
