@@ -542,7 +542,7 @@ static void measure_grids(void)
 
 /* ---- Gates, on the routes' setups and two more; then on others, which are compared and not timed. */
 
-enum { ANY_GATES = 4000, MIDDLE = DW_DESKS / 2, RIGHTS_BENT = 16 };
+enum { ANY_GATES = 4000, MIDDLE = DW_DESKS / 2, RIGHTS_BENT = 16, SELDOM = 16 };
 
 /* The line without its last desk, which has every right: over that desk two links would do. */
 static void make_around(dw_setup *s)
@@ -605,10 +605,10 @@ static void compare_gate(const struct question *q, size_t room_len)
     any_longer += peer.kind == DW_UNGUARDED && peer.value > calls;
 }
 
-/* A desk of the setup, or, once in sixteen times, perhaps the first number that is none. */
+/* A desk of the setup, or now and then perhaps the first number that is none. */
 static uint32_t any_desk(const dw_setup *s)
 {
-    return below(s->desks + (below(16) == 0));
+    return below(s->desks + (below(SELDOM) == 0));
 }
 
 /* A desk that acts on the route from a to b; any desk where there is none. */
@@ -621,7 +621,8 @@ static uint32_t desk_on_route(const struct question *q)
 }
 
 /* Desks are equal or none at times, the room is a number short at times, and one setup in eight has a bit changed. In setups
- * of any counts a gate seldom matters, so half of them are bent lines, and half of the gates stand on the route. */
+ * of any counts a gate seldom matters, so half of them are bent lines, and half of the gates are drawn from the desks of the
+ * route, its ends too. */
 static void compare_any_gates(void)
 {
     for (int i = 0; i < ANY_GATES; i++) {

@@ -1,8 +1,8 @@
-/* A host in C: accepts a setup, keeps one store in its memory, and lends it for eleven calls. The first two have desk 2 read
- * a file before anything was written. The next eight carry a figure from desk 0 over desk 1 to desk 2, which has no right on
- * the file that desk 0 writes. The last is refused. Then it asks for routes between the desks; whether all that goes from desk 0, the Scorer, to
- * desk 2, the Buyers, passes desk 1, Release, and whether it still does with one right too many; and for the number of links
- * from every desk to every desk at once.
+/* A host in C: accepts a setup, keeps one store in its memory, and lends it for eleven calls. The first two have desk 2
+ * read a file before anything was written. The next eight carry a figure from desk 0 over desk 1 to desk 2, which has no
+ * right on the file that desk 0 writes. The last is refused. Then it asks for routes between the desks; whether all that
+ * goes from desk 0, the Scorer, to desk 2, the Buyers, passes desk 1, Release, and whether it still does with one right
+ * too many; and for the number of links from every desk to every desk at once.
  *
  * bin/host-example builds and runs it. With a C compiler on x86-64 Linux, after `rt staticlib dirgewater`:
  *     cc -Iinclude examples/host.c target/staticlib/libdirgewater.a -o host && ./host

@@ -1285,7 +1285,7 @@ static struct chain ring_chain(uint32_t desks, uint32_t a, uint32_t b, uint32_t 
     return c;
 }
 
-/* From one desk to every other, with every third for a gate. */
+/* From one desk to every other, with each of the rest for a gate. */
 static void ring_is_gated(uint32_t desks)
 {
     dw_setup s = ring_setup(desks);

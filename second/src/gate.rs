@@ -5,7 +5,7 @@ use crate::route::{chain, write_route};
 use crate::rules::{Rules, Turn};
 use crate::setup::{could_be_accepted, right_at, Setup};
 use crate::sizes::{
-    calls_over, links_of, ANSWER_WIDTH, CALL_WIDTH, CLASSES, LINKS_AROUND, ROUTE_NUMBERS,
+    links_of, numbers_over, ANSWER_WIDTH, CALL_WIDTH, CLASSES, LINKS_AROUND, ROUTE_NUMBERS,
 };
 
 /// The desk that may be heard, the one that may hear it, and the one that stands between them or not.
@@ -38,8 +38,10 @@ impl Guard {
 /// Whether one of the three is no desk of the setup.
 fn has_no_desk(rules: Rules, setup: &Setup, three: Three) -> bool {
     let Three { a, b, gate } = three;
-    let judged = !rules.turned(Turn::GateDeskUnjudged);
-    a >= setup.desks || b >= setup.desks || judged && gate >= setup.desks
+    let is_none = |number: u32, unjudged| number >= setup.desks && !rules.turned(unjudged);
+    is_none(a, Turn::GateAUnjudged)
+        || is_none(b, Turn::GateBUnjudged)
+        || is_none(gate, Turn::GateDeskUnjudged)
 }
 
 /// Whether two of the three are the same.
@@ -54,7 +56,7 @@ fn has_same(rules: Rules, three: Three) -> bool {
 fn asked(rules: Rules) -> usize {
     match rules.turn {
         Turn::GateOneShorter => ROUTE_NUMBERS - 1,
-        Turn::GateRoomOfLongest => calls_over(LINKS_AROUND as u32) as usize * CALL_WIDTH,
+        Turn::GateRoomOfLongest => numbers_over(LINKS_AROUND),
         _ => ROUTE_NUMBERS,
     }
 }
@@ -129,6 +131,9 @@ fn write_around(rules: Rules, setup: &Setup, three: Three, room: &mut [u32]) -> 
     let left = without_gate(rules, setup, three);
     let own = || chain(rules, setup, a as usize, b as usize);
     match rules.turn {
+        // An end that is no desk has no links: it lies outside the tables.
+        Turn::GateAUnjudged if a >= setup.desks => None,
+        Turn::GateBUnjudged if b >= setup.desks => None,
         Turn::GateOnOwnRoute if own()?.contains(&(gate as usize)) => None,
         Turn::GateTurnedAround => write_route(rules, &left, b, a, room),
         Turn::GateWritesOwnRoute => {

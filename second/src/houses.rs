@@ -6,7 +6,8 @@ use crate::refusal::Refusal;
 use crate::route::{report, Report};
 use crate::rules::{Rules, TURNS};
 use crate::setup::{accept, right_at, Setup, SetupBytes, R, W};
-use crate::sizes::CALL_WIDTH;
+use crate::sizes::{calls_over, numbers_over, CALL_WIDTH, DESKS, LINKS_AROUND, LIST_NUMBERS};
+use crate::text::read_with_calls;
 
 const RULES: Rules = Rules::UNTURNED;
 
@@ -34,6 +35,9 @@ const GRANTED: [(u32, usize, u8); 9] = [
     (CLERK, SCORE, R),
     (CLERK, DRAFT, W),
 ];
+
+/// The last desk of a line.
+const LAST: u32 = DESKS as u32 - 1;
 
 /// The house with a right more or with none.
 fn house(more: &[(u32, usize, u8)]) -> Setup {
@@ -150,12 +154,15 @@ fn a_desk_without_a_process_guards_nothing() {
 
 #[test]
 fn every_desk_within_a_line_guards_its_ends() {
-    for gate in 1..15 {
-        let three = Three { a: 0, b: 15, gate };
+    for gate in 1..LAST {
+        let three = Three { a: 0, b: LAST, gate };
         assert_eq!(reported(&line(), three), untouched(Guard::Guarded));
     }
-    for (three, calls) in [([0, 14, 15], 57), ([1, 15, 0], 57), ([3, 4, 5], 5), ([2, 8, 9], 25)] {
-        let [a, b, gate] = three;
+    let around = LINKS_AROUND as u32;
+    for (three, links) in
+        [([0, LAST - 1, LAST], around), ([1, LAST, 0], around), ([3, 4, 5], 1), ([2, 8, 9], 6)]
+    {
+        let ([a, b, gate], calls) = (three, calls_over(links));
         let (guard, room) = reported(&line(), Three { a, b, gate });
         assert_eq!(guard, Guard::Unguarded(calls));
         let mut own = [UNTOUCHED; ROUTE_ROOM];
@@ -169,15 +176,16 @@ fn every_desk_within_a_line_guards_its_ends() {
 #[test]
 fn a_gate_is_as_good_as_a_desk_without_a_process() {
     let mut ring = line();
-    ring.rights[right_at(15, 0)] |= W;
+    ring.rights[right_at(LAST as usize, 0)] |= W;
     ring.rights[right_at(12, 13)] |= R;
-    ring.rights[right_at(14, 2)] |= R;
-    let mut without = Setup { processes: 15, ..ring.clone() };
-    without.desk_of[15] = 0;
-    for (a, b) in (0..15 * 15).map(|turn| (turn / 15, turn % 15)).filter(|(a, b)| a != b) {
+    ring.rights[right_at(LAST as usize - 1, 2)] |= R;
+    let mut without = Setup { processes: LAST, ..ring.clone() };
+    without.desk_of[LAST as usize] = 0;
+    let pairs = (0..LAST * LAST).map(|turn| (turn / LAST, turn % LAST));
+    for (a, b) in pairs.filter(|(a, b)| a != b) {
         let mut own = [UNTOUCHED; ROUTE_ROOM];
         let due = report(RULES, &without, a, b, &mut own).numbers();
-        let (guard, room) = reported(&ring, Three { a, b, gate: 15 });
+        let (guard, room) = reported(&ring, Three { a, b, gate: LAST });
         assert_eq!((guard.numbers(), room), (due, own));
     }
 }
@@ -194,7 +202,8 @@ fn assert_refused(setup: &Setup, [a, b, third]: [u32; 3], length: usize, refusal
 
 #[test]
 fn each_of_the_three_must_be_a_desk() {
-    for outside in [3, 4, 16, 255, 256, u32::MAX] {
+    let desks = q().desks;
+    for outside in [desks, desks + 1, DESKS as u32, 255, 256, u32::MAX] {
         for three in [[outside, 1, 2], [0, outside, 2], [0, 1, outside]] {
             assert_refused(&q(), three, ROUTE_ROOM, Refusal::NoSuchRouteDesk);
             assert_refused(&q(), three, 0, Refusal::NoSuchRouteDesk);
@@ -203,7 +212,7 @@ fn each_of_the_three_must_be_a_desk() {
         for three in [[outside, outside, 2], [outside, 1, outside], [0, outside, outside]] {
             assert_refused(&q(), three, ROUTE_ROOM, Refusal::NoSuchRouteDesk);
         }
-        assert_refused(&q(), [outside; 3], 243, Refusal::NoSuchRouteDesk);
+        assert_refused(&q(), [outside; 3], ROUTE_ROOM - 1, Refusal::NoSuchRouteDesk);
         // And two that are desks may be equal beside one that is none.
         for three in [[1, 1, outside], [1, outside, 1], [outside, 1, 1]] {
             assert_refused(&q(), three, ROUTE_ROOM, Refusal::NoSuchRouteDesk);
@@ -214,7 +223,7 @@ fn each_of_the_three_must_be_a_desk() {
 #[test]
 fn no_two_of_the_three_are_equal() {
     for three in [[0, 0, 1], [0, 1, 0], [1, 0, 0], [2, 2, 2]] {
-        for length in [0, 243, ROUTE_ROOM, 300] {
+        for length in [0, ROUTE_ROOM - 1, ROUTE_ROOM, ROUTE_ROOM + 1] {
             assert_refused(&q(), three, length, Refusal::SameRouteDesks);
         }
     }
@@ -223,7 +232,8 @@ fn no_two_of_the_three_are_equal() {
 #[test]
 fn a_room_is_judged_where_nothing_is_written_too() {
     let leaky = house(&[(FLOOR, SCORE, R)]);
-    for length in [0, 1, 20, 36, 227, 228, 243] {
+    let longest = numbers_over(LINKS_AROUND);
+    for length in [0, 1, numbers_over(1), numbers_over(2), longest - 1, longest, ROUTE_ROOM - 1] {
         assert_refused(&house(&[]), [SCORER, BUYER, RELEASE], length, Refusal::RoomTooShort);
         assert_refused(&leaky, [SCORER, BUYER, RELEASE], length, Refusal::RoomTooShort);
     }
@@ -235,7 +245,8 @@ fn a_room_is_judged_where_nothing_is_written_too() {
 fn a_setup_that_is_none_comes_first() {
     let mut right = q();
     right.rights[right_at(1, 1)] = 4;
-    let forged = [Setup::ZERO, Setup { desks: 17, ..q() }, Setup { desks: u32::MAX, ..q() }, right];
+    let of_desks = |desks: u32| Setup { desks, ..q() };
+    let forged = [Setup::ZERO, of_desks(DESKS as u32 + 1), of_desks(u32::MAX), right];
     for setup in &forged {
         for three in [[0, 1, 2], [9, 1, 2], [0, 0, 0], [u32::MAX; 3]] {
             assert_refused(setup, three, ROUTE_ROOM, Refusal::NoSetup);
@@ -256,6 +267,37 @@ fn fewer_than_three_desks_are_always_refused() {
             assert_refused(setup, three, ROUTE_ROOM, refusal);
         }
     }
+}
+
+/// What the project's story asks of both its houses.
+const STORY: Three = Three { a: 0, b: 3, gate: 2 };
+
+/// A house of the story, and the calls that its text has.
+fn told(name: &str) -> (Setup, Vec<[u32; CALL_WIDTH]>) {
+    let path = format!("{}/../examples/{name}.txt", env!("CARGO_MANIFEST_DIR"));
+    let mut room = [UNTOUCHED; LIST_NUMBERS];
+    let text = std::fs::read(path).unwrap();
+    let (setup, calls) = read_with_calls(RULES, &text, &mut room).unwrap();
+    let list = room.chunks(CALL_WIDTH).take(calls as usize);
+    (setup, list.map(|call| call.try_into().unwrap()).collect())
+}
+
+/// There is a route, so that the gate has something to guard. The calls that go around it in the other house show
+/// nothing in this one.
+#[test]
+fn the_story_begins_with_a_guarded_house() {
+    let (setup, calls) = told("guarded");
+    assert_eq!(reported(&setup, STORY), untouched(Guard::Guarded));
+    let own = report(RULES, &setup, STORY.a, STORY.b, &mut [0; ROUTE_ROOM]);
+    assert_eq!(own, Report::Route(calls_over(2)));
+    assert_eq!(answers(&setup, &calls).pop(), Some(NOTHING));
+}
+
+#[test]
+fn the_story_ends_with_the_calls_that_go_around() {
+    let (setup, calls) = told("around");
+    assert_list(&setup, STORY, &calls);
+    assert_eq!(calls, told("guarded").1);
 }
 
 /// Each turn is told to be of the gate, or not, as its name has it.

@@ -102,6 +102,8 @@ pub enum Turn {
     GateTakesClasses,
     GateSeatsForA,
     GateTurnedAround,
+    GateAUnjudged,
+    GateBUnjudged,
     GateDeskUnjudged,
     GatePairMayBeEqual,
     GateMayBeA,
@@ -121,7 +123,7 @@ pub enum Turn {
 }
 
 /// Every turn that breaks a rule.
-pub const TURNS: [Turn; 105] = [
+pub const TURNS: [Turn; 107] = [
     Turn::ReadUnopened,
     Turn::ReadLockedByAnother,
     Turn::WriteUnlocked,
@@ -211,6 +213,8 @@ pub const TURNS: [Turn; 105] = [
     Turn::GateTakesClasses,
     Turn::GateSeatsForA,
     Turn::GateTurnedAround,
+    Turn::GateAUnjudged,
+    Turn::GateBUnjudged,
     Turn::GateDeskUnjudged,
     Turn::GatePairMayBeEqual,
     Turn::GateMayBeA,

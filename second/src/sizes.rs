@@ -29,6 +29,11 @@ pub const fn calls_over(links: u32) -> u32 {
     links.saturating_mul(CALLS_A_LINK).saturating_add(1)
 }
 
+/// The numbers of a list over so many links.
+pub const fn numbers_over(links: usize) -> usize {
+    calls_over(links as u32) as usize * CALL_WIDTH
+}
+
 /// The links that a list of so many calls goes over. It must have a call, as every route's list has.
 pub const fn links_of(calls: u32) -> u32 {
     (calls - 1) / CALLS_A_LINK

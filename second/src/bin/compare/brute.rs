@@ -2,7 +2,7 @@
 
 use crate::calls::{doing, lent};
 use crate::case::Case;
-use crate::gates::third;
+use crate::gates::{third, FEWEST};
 use crate::random::Random;
 use crate::setups;
 use crate::telling::tell_setup;
@@ -20,6 +20,24 @@ const LISTS: usize = 120;
 const DOINGS_MOST: usize = 60;
 /// One list in so many is also put to the library.
 const SHARE: usize = 400;
+
+/// Over so many links, a third desk carries what is heard.
+const FAR: usize = 2;
+
+/// How often a search must meet each thing, which is some four tenths of what one round meets.
+pub struct Least {
+    /// Nothing is to be heard, and lists are searched for it all the same.
+    silent: u64,
+    /// Something is found, over any number of links, and over two or more.
+    found: u64,
+    found_far: u64,
+    /// A gate guards a route, which is found in lists with its calls.
+    guarded: u64,
+}
+
+/// Without a gate desk there is nothing that guards.
+pub const LEAST_OF_PAIRS: Least = Least { silent: 580, found: 610, found_far: 130, guarded: 0 };
+pub const LEAST_OF_GATES: Least = Least { silent: 530, found: 65, found_far: 20, guarded: 195 };
 
 /// What is searched for: that desk b hears desk a, in lists in which the gate desk, if there is one, makes no call.
 #[derive(Clone, Copy)]
@@ -136,7 +154,7 @@ impl Brute {
     pub fn search_gate(&mut self, random: &mut Random) {
         let setup = match random.below(2) {
             0 => setups::sparse(random),
-            _ => setups::for_search(random, 3),
+            _ => setups::for_search(random, FEWEST),
         };
         let (a, b) = pair_apart(random, &setup);
         let three = Three { a, b, gate: third(random, &setup, a, b) };
@@ -188,35 +206,41 @@ impl Brute {
     }
 
     /// Whether nothing was heard where the report says so.
-    pub fn silent_check(&self, said: &str, of: &str) -> (String, bool) {
+    pub fn silent_check(&self, said: &str, of: &str, least: &Least) -> (String, bool) {
         let Brute { silent, silent_lists, .. } = self;
+        let asked = least.silent;
         let heard = if self.contradiction.is_none() { "none" } else { "one" };
-        (
-            format!("{said}: {silent} {of}, {silent_lists} lists searched, {heard} is heard"),
-            self.contradiction.is_none() && *silent > 0,
-        )
+        let told = format!(
+            "{said}: {silent} {of} (least {asked}), {silent_lists} lists searched, {heard} is heard"
+        );
+        (told, self.contradiction.is_none() && *silent >= asked)
     }
 
     /// Whether the search has the power to find what the report says is there.
-    pub fn found_check(&self, said: &str) -> (String, bool) {
+    pub fn found_check(&self, said: &str, least: &Least) -> (String, bool) {
         let Brute { routes, routes_found, by_links, .. } = self;
+        let Least { found, found_far, .. } = least;
+        let far: u64 = by_links[FAR..].iter().map(|(found, _)| found).sum();
         let links = by_links.iter().enumerate().filter(|(_, (_, all))| *all > 0);
         let links: Vec<String> =
             links.map(|(links, (found, all))| format!("{links} links {found} of {all}")).collect();
         let told = format!(
-            "{said}: the same search finds {routes_found} of {routes} without the written list ({})",
+            "{said}: the same search finds {routes_found} of {routes} without the written list ({}; \
+             least {found}, {FAR} links or more {far}, least {found_far})",
             links.join(", ")
         );
-        (told, is_most(*routes_found, *routes))
+        (told, is_most(*routes_found, *routes, *found) && far >= *found_far)
     }
 
     /// Whether it has the power to find what the gates keep from being heard.
-    pub fn guarded_check(&self) -> (String, bool) {
+    pub fn guarded_check(&self, least: &Least) -> (String, bool) {
         let Brute { guarded, guarded_found, .. } = self;
+        let asked = least.guarded;
         let told = format!(
-            "guarded though a route exists: the same search finds {guarded_found} of {guarded} with C's calls"
+            "guarded though a route exists: the same search finds {guarded_found} of {guarded} \
+             with C's calls (least {asked})"
         );
-        (told, is_most(*guarded_found, *guarded))
+        (told, is_most(*guarded_found, *guarded, asked))
     }
 
     /// Tells the list that contradicts a report, if one was found.
@@ -235,9 +259,9 @@ impl Brute {
     }
 }
 
-/// Nine of ten must be found, and there must be some.
-fn is_most(found: u64, all: u64) -> bool {
-    all > 0 && found * 10 >= all * 9
+/// Nine of ten must be found, and not fewer than the least.
+fn is_most(found: u64, all: u64, least: u64) -> bool {
+    found >= least && found * 10 >= all * 9
 }
 
 /// Both runs of a list as cases for the library.

@@ -11,17 +11,17 @@ use second::gate::Three;
 use second::route::chain;
 use second::rules::Rules;
 use second::setup::{right_at, Setup, R, W};
-use second::sizes::{calls_over, CALL_WIDTH, DESKS, LINKS, LINKS_AROUND, ROUTE_NUMBERS};
+use second::sizes::{numbers_over, DESKS, LINKS, LINKS_AROUND, ROUTE_NUMBERS};
 use std::array::from_fn;
 
 /// What stands in a run that is lent by hand.
 const KEPT: u32 = 7;
 
 /// The fewest desks that a gate can be asked about.
-const FEWEST: usize = 3;
+pub const FEWEST: usize = 3;
 
 /// Room for the longest list that goes around a desk, which is not room enough.
-pub const LONGEST: usize = calls_over(LINKS_AROUND as u32) as usize * CALL_WIDTH;
+pub const LONGEST: usize = numbers_over(LINKS_AROUND);
 
 fn with_room(setup: &Setup, [a, b, gate]: [u32; 3], length: usize) -> Case {
     let (setup, three) = (Box::new(setup.clone()), Three { a, b, gate });
@@ -84,8 +84,17 @@ fn houses() -> [Setup; 4] {
 
 /// Every three desks of each house, and its gate with rooms of all lengths at which something ends.
 fn of_houses() -> Vec<Case> {
-    const LENGTHS: [usize; 9] =
-        [0, 1, 20, 36, LONGEST - 1, LONGEST, LONGEST + 1, ROUTE_NUMBERS - 1, ROUTE_NUMBERS + 40];
+    const LENGTHS: [usize; 9] = [
+        0,
+        1,
+        numbers_over(1),
+        numbers_over(2),
+        LONGEST - 1,
+        LONGEST,
+        LONGEST + 1,
+        ROUTE_NUMBERS - 1,
+        ROUTE_NUMBERS + 40,
+    ];
     let mut cases = Vec::new();
     for setup in houses() {
         let different = threes(&[0, 1, 2, 3, 4]).filter(are_different);
@@ -253,6 +262,7 @@ mod tests {
     use super::*;
     use second::call::Call;
     use second::gate::{gate, Guard};
+    use second::sizes::CALL_WIDTH;
 
     const SETUPS: usize = 400;
 

@@ -1,5 +1,6 @@
 //! Setups at random: sound ones of many shapes, forged ones, and bytes that may or may not be accepted.
 
+use crate::gates::FEWEST;
 use crate::random::Random;
 use second::setup::{right_at, Setup, SetupBytes, R, RW, W};
 use second::sizes::{CLASSES, DESKS, FILES, PROCESSES};
@@ -58,10 +59,10 @@ pub fn for_search(random: &mut Random, least: usize) -> Setup {
     setup
 }
 
-/// A small setup with three desks or more and few links, each with a class and a file of its own.
+/// A small setup with desks enough for a gate and few links, each with a class and a file of its own.
 pub fn sparse(random: &mut Random) -> Setup {
     const MOST_DESKS: usize = 5;
-    let desks = random.between(3, MOST_DESKS);
+    let desks = random.between(FEWEST, MOST_DESKS);
     let links = random.between(2, MOST_DESKS + 1);
     let mut setup = of_counts(random, [desks, links, MOST_DESKS, links]);
     setup.rights = Setup::ZERO.rights;

@@ -1,6 +1,6 @@
 //! The trial: puts families of cases to both programs, and keeps what it met, found and could not find.
 
-use crate::brute::Brute;
+use crate::brute::{Brute, LEAST_OF_GATES, LEAST_OF_PAIRS};
 use crate::case::Case;
 use crate::counts::{Counts, LINKED_TOTAL, UNLINKED_TOTAL};
 use crate::eyes::Eyes;
@@ -230,11 +230,7 @@ impl Trial {
                 format!("{family}: {cases} cases, {differences} differ{left}, {seconds:.1} s");
             checks.push((told, differences + unasked == 0));
         }
-        checks.push(self.brute.silent_check("no route", "pairs of desks"));
-        checks.push(self.brute.found_check("route"));
-        checks.push(self.gates.silent_check("guarded", "gates without their calls"));
-        checks.push(self.gates.found_check("not guarded"));
-        checks.push(self.gates.guarded_check());
+        checks.extend(self.search_checks());
         checks.push((
             format!("written lists: {} do not show figure 1, and nothing without A", self.unshown),
             self.unshown == 0,
@@ -248,6 +244,18 @@ impl Trial {
             self.unlike == 0,
         ));
         checks
+    }
+
+    /// What the searches met, found, and must not find.
+    fn search_checks(&self) -> [(String, bool); 5] {
+        let of_gates = "gates without their calls";
+        [
+            self.brute.silent_check("no route", "pairs of desks", &LEAST_OF_PAIRS),
+            self.brute.found_check("route", &LEAST_OF_PAIRS),
+            self.gates.silent_check("guarded", of_gates, &LEAST_OF_GATES),
+            self.gates.found_check("not guarded", &LEAST_OF_GATES),
+            self.gates.guarded_check(&LEAST_OF_GATES),
+        ]
     }
 
     pub fn count_checks(&self) -> Vec<(String, bool)> {
