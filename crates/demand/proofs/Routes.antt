@@ -46,11 +46,11 @@ routeCalls-most s e acting {a} {xs = d ∷ rest} h =
 abbrev pub ByActing : Setup → Acting → Numbers → Type 0
 ByActing s acting n = (d : ℕ) → deskOfCall s n ≡ some d → acting d ≡ true
 
--- so do all calls of a list
+-- so does every call of a list
 abbrev pub OfActing : Setup → Acting → List Numbers → Type 0
 OfActing s acting calls = Every (ByActing s acting) calls
 
--- and a call is four 32-bit numbers beside
+-- the call does, and is four 32-bit numbers
 pub record Allowed (s : Setup) (acting : Acting) (n : Numbers) : Type 0 where
   pub small : Is32 n
   pub by : ByActing s acting n
