@@ -1,4 +1,5 @@
 // One call: four numbers decoded, the rule of each code, and the entry.
+#![tactic(auto)]
 pub mod decoding;
 pub mod entry;
 pub mod stepping;
@@ -6,7 +7,7 @@ pub mod stepping;
 use rules::{Answer, Cell};
 
 // What a process meets of one file: its holder, its content, and the process's own open mark.
-#[derive(Drop)]
+#[derive(Clone, Copy)]
 pub struct Meeting {
     pub holder: u32,
     pub content: Cell,
@@ -15,7 +16,7 @@ pub struct Meeting {
 
 // What a call looks at: R on the class of its file f, W on the class of the file that it can change; of f whether the
 // process has it open, its holder and its content; and what the process meets of the file that it can change.
-#[derive(Drop)]
+#[derive(Clone, Copy)]
 pub struct Looks {
     pub r: bool,
     pub w: bool,
@@ -26,7 +27,7 @@ pub struct Looks {
 }
 
 // What a call answers, and what its process meets next of the one file that it can change.
-#[derive(Drop)]
+#[derive(Clone, Copy)]
 pub struct Turn {
     pub answer: Answer,
     pub meeting: Meeting,

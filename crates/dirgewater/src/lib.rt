@@ -1,4 +1,5 @@
 // What a program in another language is handed: an answer as two numbers, and beside it the next store.
+#![tactic(auto)]
 pub mod by_value;
 pub mod lent;
 pub mod texts;
@@ -15,7 +16,7 @@ use rules::{
 
 // The two numbers of an answer.
 #[repr(C)]
-#[derive(Drop)]
+#[derive(Clone, Copy)]
 pub struct Numbered {
     pub kind: u32,
     pub value: u32,
@@ -23,7 +24,7 @@ pub struct Numbered {
 
 // What a call answers, as two numbers, and the next store.
 #[repr(C)]
-#[derive(Drop)]
+#[derive(Clone, Copy)]
 pub struct Outcome {
     pub numbered: Numbered,
     pub store: Store,

@@ -9,7 +9,7 @@ use text::reading::{read_alone, read_with_calls};
 
 // What became of a text, as numbers, and the setup that was read.
 #[repr(C)]
-#[derive(Drop)]
+#[derive(Clone, Copy)]
 pub struct TextRead {
     pub numbered: Numbered,
     pub offset: usize,

@@ -1,4 +1,5 @@
 // The lines of a text as code reads them: a cursor goes over the bytes once, field by field.
+#![tactic(auto)]
 pub mod parts;
 pub mod shapes;
 pub mod words;
@@ -6,14 +7,14 @@ pub mod words;
 use rules::Numbers;
 
 // In each of these `next` is the cursor after what was read and its stop, and 0 where the bytes are none such.
-#[derive(Drop)]
+#[derive(Clone, Copy)]
 pub struct Number {
     pub next: usize,
     pub value: u32,
 }
 
 // The numbers of a header line.
-#[derive(Drop)]
+#[derive(Clone, Copy)]
 pub struct Counts {
     pub next: usize,
     pub desks: u32,
@@ -23,7 +24,7 @@ pub struct Counts {
 }
 
 // The numbers of an access line.
-#[derive(Drop)]
+#[derive(Clone, Copy)]
 pub struct Access {
     pub next: usize,
     pub desk: u32,
@@ -32,7 +33,7 @@ pub struct Access {
 }
 
 // Two numbers that end a line: of a process line its number and its desk, of a file line its number and its class.
-#[derive(Drop)]
+#[derive(Clone, Copy)]
 pub struct Pair {
     pub next: usize,
     pub first: u32,
@@ -40,7 +41,7 @@ pub struct Pair {
 }
 
 // The numbers of a call line.
-#[derive(Drop)]
+#[derive(Clone, Copy)]
 pub struct CallNumbers {
     pub next: usize,
     pub numbers: Numbers,

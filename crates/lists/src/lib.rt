@@ -1,4 +1,5 @@
 // Lists of calls over lent runs of numbers.
+#![tactic(auto)]
 pub mod running;
 pub mod writing;
 
@@ -8,13 +9,13 @@ use rules::Store;
 pub const ANSWER_WIDTH: usize = 2;
 
 // The number of calls run, or the refusal for which none was.
-#[derive(Drop)]
+#[derive(Clone, Copy)]
 pub enum ListAnswer {
     Ran(u32),
     Stopped(u32),
 }
 
-#[derive(Drop)]
+#[derive(Clone, Copy)]
 pub struct Listed {
     pub answer: ListAnswer,
     pub store: Store,

@@ -1,4 +1,5 @@
 // What the program prints: lines of answers, and the line of a refused text.
+#![tactic(auto)]
 pub mod entry;
 mod writing;
 

@@ -1,4 +1,5 @@
 // The route report: whether desk A can be heard by desk B, and the list of calls that shows it.
+#![tactic(auto)]
 pub mod report;
 pub mod showing;
 mod writing;
@@ -15,7 +16,7 @@ pub const CALLS_AT_END: usize = 1;
 pub const ROUTE_NUMBERS: usize = (CALLS_OF_LINK * LINKS + CALLS_AT_END) * CALL_WIDTH;
 
 // No route, a route and the number of calls that show it, or the refusal.
-#[derive(Drop)]
+#[derive(Clone, Copy)]
 pub enum RouteAnswer {
     NoRoute,
     Route(u32),

@@ -1,5 +1,6 @@
 // The types of the store, its sizes, and the names of refusals, kinds and codes. The rules over them are in specs/, their laws in proofs/;
 // crates above have the code.
+#![tactic(auto)]
 
 // The least and the most of each thing.
 pub const LEAST: u32 = 1;
@@ -104,7 +105,7 @@ pub const CODE_OF_TESTLOCK: u32 = 7;
 pub const CODE_OF_COPY: u32 = 8;
 
 #[repr(C)]
-#[derive(Drop)]
+#[derive(Clone, Copy)]
 pub struct Setup {
     pub desks: u32,
     pub classes: u32,
@@ -118,7 +119,7 @@ pub struct Setup {
 
 // What a file holds: a figure, and the written mark, which is 1 in a written file and 0 in an unwritten one.
 #[repr(C)]
-#[derive(Drop)]
+#[derive(Clone, Copy)]
 pub struct Cell {
     pub figure: u32,
     pub written: u32,
@@ -126,7 +127,7 @@ pub struct Cell {
 
 // For each file who has it locked, what it holds, and who has it open.
 #[repr(C)]
-#[derive(Drop)]
+#[derive(Clone, Copy)]
 pub struct Store {
     // 0 for unlocked, else the process plus one.
     pub holders: [u32; FILES],
@@ -136,7 +137,7 @@ pub struct Store {
 }
 
 // A call as numbers: its operation, process p, file f and extra x. CALL_WIDTH counts them.
-#[derive(Drop)]
+#[derive(Clone, Copy)]
 pub struct Numbers {
     pub operation: u32,
     pub process: u32,
@@ -145,7 +146,7 @@ pub struct Numbers {
 }
 
 // A call of process p on file f; the third number is WRITE's figure, and the file that COPY changes.
-#[derive(Drop)]
+#[derive(Clone, Copy)]
 pub enum Call {
     Read(u32, u32),
     Write(u32, u32, u32),
@@ -157,7 +158,7 @@ pub enum Call {
     Copy(u32, u32, u32),
 }
 
-#[derive(Drop)]
+#[derive(Clone, Copy)]
 pub enum Answer {
     Nothing,
     Figure(u32),
@@ -167,7 +168,7 @@ pub enum Answer {
 }
 
 // Four numbers are a call, or are not, with the refusal's number.
-#[derive(Drop)]
+#[derive(Clone, Copy)]
 pub enum Decoded {
     Is(Call),
     Not(u32),
@@ -175,7 +176,7 @@ pub enum Decoded {
 
 // The refusal's number is 0 where a setup is given; where it is not, the blank setup stands beside it.
 #[repr(C)]
-#[derive(Drop)]
+#[derive(Clone, Copy)]
 pub struct GivenSetup {
     pub refusal: u32,
     pub setup: Setup,
@@ -183,14 +184,14 @@ pub struct GivenSetup {
 
 // The refusal's number is 0 where a store is given; where it is not, a store that fits no setup stands beside it.
 #[repr(C)]
-#[derive(Drop)]
+#[derive(Clone, Copy)]
 pub struct GivenStore {
     pub refusal: u32,
     pub store: Store,
 }
 
 // What a call answers, and the next store.
-#[derive(Drop)]
+#[derive(Clone, Copy)]
 pub struct Called {
     pub answer: Answer,
     pub store: Store,

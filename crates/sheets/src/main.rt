@@ -1,4 +1,5 @@
 // The program: reads both texts from standard input and prints the answers, or the refusal.
+#![tactic(auto)]
 ghost use Rattle.std.specs.Prelude.{◌+◌, ◌≤◌, length};
 ghost use Rattle.sheets.specs.Reads.{bytes_of};
 
@@ -7,7 +8,7 @@ use printing::entry::print;
 use printing::{INPUT, OUTPUT};
 
 // How many bytes came, or that a read failed.
-#[derive(Drop)]
+#[derive(Clone, Copy)]
 enum Got {
     Bytes(usize),
     Failed,

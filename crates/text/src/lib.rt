@@ -1,4 +1,5 @@
 // Reading texts by the line rules.
+#![tactic(auto)]
 
 mod calls;
 pub mod reading;
@@ -7,14 +8,14 @@ mod setups;
 use rules::Setup;
 
 // How far lines were read: the refusal's number, and the offset of the faulty line; or 0, and the cursor after them.
-#[derive(Drop)]
+#[derive(Clone, Copy)]
 pub struct Span {
     pub refusal: u32,
     pub at: usize,
 }
 
 // The same of a setup's lines, with the setup; beside a refusal the blank one stands.
-#[derive(Drop)]
+#[derive(Clone, Copy)]
 pub struct SetupRead {
     pub refusal: u32,
     pub at: usize,
@@ -22,7 +23,7 @@ pub struct SetupRead {
 }
 
 // The same of call lines, with the number of the calls.
-#[derive(Drop)]
+#[derive(Clone, Copy)]
 pub struct CallSpan {
     pub refusal: u32,
     pub at: usize,

@@ -1,4 +1,5 @@
 // The twelve sheets of trial, run through the entries. That every check passes is proved from the table's one claim.
+#![tactic(auto)]
 mod comparing;
 
 ghost use Rattle.std.specs.Prelude.{◌≡◌, true};
