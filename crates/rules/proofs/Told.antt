@@ -16,6 +16,10 @@ fails {flag} e t = sym e ∙ not-true flag t
 pub holds : {flag fact : Bool} → flag ≡ fact → not flag ≡ false → fact ≡ true
 holds {flag} e t = sym e ∙ not-false flag t
 
+-- a flag that a test has told is the fact
+pub known : {flag fact told : Bool} → flag ≡ fact → flag ≡ told → fact ≡ told
+known e t = sym e ∙ t
+
 -- what follows where no refusal is given and where one is follows
 pub refused_or_not : {C : Type 0} (n : ℕ) → (n ≡ 0 → C) → (n ≢ 0 → C) → C
 refused_or_not zero f g = f refl
