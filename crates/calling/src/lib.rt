@@ -1,5 +1,6 @@
 // One call: four numbers decoded, the rule of each code, and the entry.
 #![tactic(auto)]
+
 pub mod decoding;
 pub mod entry;
 pub mod stepping;

@@ -130,6 +130,7 @@ fn holder_fits(setup: Setup, f: usize, holder: u32) -> bool
     }
 }
 
+#[tactic(auto, unfolding(rules::specs::Stores::mark_fits, rules::specs::Setups::may_read))]
 fn mark_fits<'a>(
     processes: usize,
     rights: &'a [u8],

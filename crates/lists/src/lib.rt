@@ -1,5 +1,6 @@
 // Lists of calls over lent runs of numbers.
 #![tactic(auto)]
+
 pub mod running;
 pub mod writing;
 

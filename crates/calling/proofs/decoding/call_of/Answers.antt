@@ -23,36 +23,36 @@ past-codes p f x (suc (suc (suc (suc (suc (suc (suc (suc (suc n))))))))) h2 h3 h
 
 pub returns-in-2 : goal.returns-in-2
 unfolding call_of
-returns-in-2 c = simp c.in_default.keys1
+returns-in-2 c = simp c.in-2.is
 
 pub returns-in-3 : goal.returns-in-3
 unfolding call_of
-returns-in-3 c = simp c.in_default.keys2
+returns-in-3 c = simp c.in-3.is
 
 pub returns-in-4 : goal.returns-in-4
 unfolding call_of
-returns-in-4 c = simp c.in_default.keys3
+returns-in-4 c = simp c.in-4.is
 
 pub returns-in-5 : goal.returns-in-5
 unfolding call_of
-returns-in-5 c = simp c.in_default.keys4
+returns-in-5 c = simp c.in-5.is
 
 pub returns-in-6 : goal.returns-in-6
 unfolding call_of
-returns-in-6 c = simp c.in_default.keys5
+returns-in-6 c = simp c.in-6.is
 
 pub returns-in-7 : goal.returns-in-7
 unfolding call_of
-returns-in-7 c = simp c.in_default.keys6
+returns-in-7 c = simp c.in-7.is
 
 pub returns-in-8 : goal.returns-in-8
 unfolding call_of
-returns-in-8 c = simp c.in_default.keys7
+returns-in-8 c = simp c.in-8.is
 
 pub returns-in_default : goal.returns-in_default
 unfolding call_of
 returns-in_default c =
     let n = c.args.n in
-    let r = c.in_default.rest in
+    let r = c.in_default.in_default-own.rest in
     rw sub-one
     (past-codes n.process n.file n.extra n.operation r.0.0.0.0.0.0.1 r.0.0.0.0.0.1 r.0.0.0.0.1 r.0.0.0.1 r.0.0.1 r.0.1 r.1)

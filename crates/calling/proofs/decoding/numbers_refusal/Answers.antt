@@ -15,17 +15,9 @@ use Rattle.calling.proofs.decoding.numbers_refusal.Goals as goal
 abbrev LeftToJudge : Setup → Numbers → Type 0
 LeftToJudge s n = numbers_refusal s n ≡ first_of ((eqb n.operation code_of_copy && leb s.files n.extra gives 7) ∷ refusal8 n ∷ refusal9 n ∷ [])
 
-left-to-judge : (s : Setup) (n : Numbers) → first_code ≤ n.operation → n.operation ≤ last_code → n.process < s.processes → n.file < s.files → LeftToJudge s n
+left_to_judge : (s : Setup) (n : Numbers) → first_code ≤ n.operation → n.operation ≤ last_code → n.process < s.processes → n.file < s.files → LeftToJudge s n
 unfolding numbers_refusal
-left-to-judge s n h₁ h₂ h₃ h₄ = simp (le-ltb _ _ h₁, le-ltb _ _ h₂, lt-leb _ _ h₃, lt-leb _ _ h₄)
-
-at-if5 : (c : tie.Else4) → (let a = c.args in LeftToJudge a.setup a.n)
-at-if5 c =
-    left-to-judge _ _
-    c.if-op-lt-FIRST_CODE.false
-    c.if-op-gt-LAST_CODE.false
-    c.if-setup-p.false
-    c.if-setup-f.false
+left_to_judge s n h₁ h₂ h₃ h₄ = simp (le-ltb _ _ h₁, le-ltb _ _ h₂, lt-leb _ _ h₃, lt-leb _ _ h₄)
 
 pub returns-then-op-lt-FIRST_CODE : goal.returns-then-op-lt-FIRST_CODE
 unfolding numbers_refusal
@@ -50,27 +42,27 @@ returns-then-setup-f c =
     )
 
 pub returns-then-setup-x : goal.returns-then-setup-x
-returns-then-setup-x c = rw (at-if5 c) (simp (c.if-op-eq-CODE_OF_COPY.true, le-leb _ _ c.if-setup-x.true))
+returns-then-setup-x c = rw (left_to_judge c.args.setup c.args.n c.if-op-lt-FIRST_CODE.false c.if-op-gt-LAST_CODE.false c.if-setup-p.false c.if-setup-f.false) (simp (c.if-op-eq-CODE_OF_COPY.true, le-leb _ _ c.if-setup-x.true))
 
 pub returns-then-x-f : goal.returns-then-x-f
 returns-then-x-f c =
-    rw (at-if5 c)
+    rw (left_to_judge c.args.setup c.args.n c.if-op-lt-FIRST_CODE.false c.if-op-gt-LAST_CODE.false c.if-setup-p.false c.if-setup-f.false)
     (simp (c.if-op-eq-CODE_OF_COPY.true, lt-leb _ _ c.if-setup-x.false, eq-eqb _ _ c.if-x-f.true))
 
 pub returns-then-op-eq-CODE_OF_COPY : goal.returns-then-op-eq-CODE_OF_COPY
 returns-then-op-eq-CODE_OF_COPY c =
-    rw (at-if5 c)
+    rw (left_to_judge c.args.setup c.args.n c.if-op-lt-FIRST_CODE.false c.if-op-gt-LAST_CODE.false c.if-setup-p.false c.if-setup-f.false)
     (simp (c.if-op-eq-CODE_OF_COPY.true, lt-leb _ _ c.if-setup-x.false, ne_eqb _ _ c.if-x-f.false))
 
 pub returns-then-op-eq-CODE_OF_WRITE : goal.returns-then-op-eq-CODE_OF_WRITE
-returns-then-op-eq-CODE_OF_WRITE c = rw (at-if5 c) (simp c.if-op-eq-CODE_OF_WRITE.true)
+returns-then-op-eq-CODE_OF_WRITE c = rw (left_to_judge c.args.setup c.args.n c.if-op-lt-FIRST_CODE.false c.if-op-gt-LAST_CODE.false c.if-setup-p.false c.if-setup-f.false) (simp c.if-op-eq-CODE_OF_WRITE.true)
 
 pub returns-then-x-ne0 : goal.returns-then-x-ne0
 returns-then-x-ne0 c =
-    rw (at-if5 c)
+    rw (left_to_judge c.args.setup c.args.n c.if-op-lt-FIRST_CODE.false c.if-op-gt-LAST_CODE.false c.if-setup-p.false c.if-setup-f.false)
     (simp (ne_eqb _ _ c.if-op-eq-CODE_OF_COPY.false, ne_eqb _ _ c.if-op-eq-CODE_OF_WRITE.false, ne_eqb _ _ c.if-x-ne0.true))
 
 pub returns : goal.returns
 returns c =
-    rw (at-if5 c)
+    rw (left_to_judge c.args.setup c.args.n c.if-op-lt-FIRST_CODE.false c.if-op-gt-LAST_CODE.false c.if-setup-p.false c.if-setup-f.false)
     (simp (ne_eqb _ _ c.if-op-eq-CODE_OF_COPY.false, ne_eqb _ _ c.if-op-eq-CODE_OF_WRITE.false, eq-eqb _ _ c.if-x-ne0.false))

@@ -1,17 +1,10 @@
 -- `calling::stepping::unlock` meets its contract: its test is the rule's condition, and its branches are the effect and none.
-use mathlib.Core.Path.{◌≡◌, sym, ◌∙◌}
-use mathlib.Core.Bool.{◌&&◌}
 use Rattle.rules.specs.declared.Call.TheVariants.{Unlock}
-use Rattle.calling.specs.Turns.{goes}
 use Rattle.calling.proofs.Turns.{turn_goes, turn_stays}
 use Rattle.calling.proofs.stepping.unlock.Goals as goal
 
--- the test is the rule's condition
-asked : (c : tie.After-struct-known) → (let a = c.args in (a.look.w && c.locked_by.result) ≡ goes (Unlock a.p a.f) a.look)
-asked c = simp c.locked_by.ensures
-
 pub returns-then-look-locked_by : goal.returns-then-look-locked_by
-returns-then-look-locked_by c = let a = c.args in rw (turn_goes (Unlock a.p a.f) a.look (sym (asked c) ∙ c.if-look-locked_by.true)) (simp (c.quiet.ensures, c.with_holder.ensures))
+returns-then-look-locked_by c = let a = c.args in rw (turn_goes (Unlock a.p a.f) a.look (simp c.locked_by.ensures at c.if-look-locked_by.true)) (simp (c.quiet.ensures, c.with_holder.ensures))
 
 pub returns-else-look-locked_by : goal.returns-else-look-locked_by
-returns-else-look-locked_by c = let a = c.args in rw (turn_stays (Unlock a.p a.f) a.look (sym (asked c) ∙ c.if-look-locked_by.false)) c.quiet-else-look-locked_by.ensures
+returns-else-look-locked_by c = let a = c.args in rw (turn_stays (Unlock a.p a.f) a.look (simp c.locked_by.ensures at c.if-look-locked_by.false)) c.quiet-else-look-locked_by.ensures
