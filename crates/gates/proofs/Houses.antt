@@ -47,5 +47,5 @@ module _ (s : Setup) (a b c : ℕ) (room : List ℕ) (e : gate_refusal s a b c (
   pub on_shown_chain : HasRoute (linked s) a b → gated s a b c (length room) ≡ Guarded → is_on c (chain_of (linked s) a b) ≡ true
   on_shown_chain r q =
       let h = sound.route in
-      let is_desk_lem : a < most_desks = omega (arith, h.from, (accepted_sizes s h.setup).of_desks.high) in
-      on_every_way.0 q (chain_of (linked s) a b) (report_takes (linked_among_most s h.setup) a b is_desk_lem r).of_fewest.chain
+      let is_desk : a < most_desks = omega (arith, h.from, (accepted_sizes s h.setup).of_desks.high) in
+      on_every_way.0 q (chain_of (linked s) a b) (report_takes (linked_among_most s h.setup) a b is_desk r).of_fewest.chain

@@ -24,22 +24,22 @@ use Rattle.gates.specs.declared.GateAnswer.TheVariants.{Guarded, Unguarded}
 use Rattle.gates.proofs.Whole.{Sound, gate_sound, gated_refused, room_refused, gated_is, room_is}
 
 module _ (s : Setup) (a b c : ℕ) {n : ℕ} (h : Sound s a b c n) where
-  is_desk_lem : a < most_desks
-  is_desk_lem = omega (arith, h.route.from, (accepted_sizes s h.route.setup).of_desks.high)
+  is_desk : a < most_desks
+  is_desk = omega (arith, h.route.from, (accepted_sizes s h.route.setup).of_desks.high)
 
   -- c guards exactly where no route runs among the other desks, as the number of links tells
   pub guarded_exactly : GuardedBy s a b c ↔ (¬ HasRoute (links_around s c) a b)
-  guarded_exactly = exactly_around s h.route.setup a b is_desk_lem h.route.apart c h.from_gate h.onto_gate
+  guarded_exactly = exactly_around s h.route.setup a b is_desk h.route.apart c h.from_gate h.onto_gate
 
   guarded_told : (fewest_links (links_around s c) a b < far → ¬ GuardedBy s a b c) × (far ≤ fewest_links (links_around s c) a b → GuardedBy s a b c)
-  guarded_told = way_tells (acting_most s h.route.setup (others c)) a b is_desk_lem guarded_exactly
+  guarded_told = way_tells (acting_most s h.route.setup (others c)) a b is_desk guarded_exactly
 
   -- the list at the front of a room goes around c
   goes_around : fewest_links (links_around s c) a b < far → (rest : List ℕ)
       → GoesAround s a b c (calls_for (fewest_links (links_around s c) a b)) (in_quads (route_calls s a (chain_of (links_around s c) a b)) ++ rest)
   goes_around near rest =
-      let r = (fewest_links_iff (acting_most s h.route.setup (others c)) a b is_desk_lem).0 near in
-      let f = front_shows s h.route.setup (others c) a b is_desk_lem h.route.apart r rest in
+      let r = (fewest_links_iff (acting_most s h.route.setup (others c)) a b is_desk).0 near in
+      let f = front_shows s h.route.setup (others c) a b is_desk h.route.apart r rest in
       record {
         chain = f.chain;
         taken = f.taken;

@@ -69,8 +69,8 @@ module _ (s : Setup) (run : List ℕ) (unrefused : grid_refusal s (length run) �
   sound : accepted s ≡ true
   sound = (grid_sound s (length run) unrefused).setup
 
-  is_desk_lem : (a : ℕ) → a < s.desks → a < most_desks
-  is_desk_lem a l = omega (arith, l, (accepted_sizes s sound).of_desks.high)
+  is_desk : (a : ℕ) → a < s.desks → a < most_desks
+  is_desk a l = omega (arith, l, (accepted_sizes s sound).of_desks.high)
 
   entry_is : (a b : ℕ) → a < s.desks → b < s.desks → entry_for s run a b ≡ grid_number (linked s) a b
   unfolding grid_over
@@ -86,7 +86,7 @@ module _ (s : Setup) (run : List ℕ) (unrefused : grid_refusal s (length run) �
 
   -- for a desk and itself the entry is 0
   pub own_entry : (a : ℕ) → a < s.desks → entry_for s run a a ≡ 0
-  own_entry a l = entry_is a a l l ∙ diagonal (linked_among_most s sound) a (is_desk_lem a l)
+  own_entry a l = entry_is a a l l ∙ diagonal (linked_among_most s sound) a (is_desk a l)
 
   module _ (a b : ℕ) (from : a < s.desks) (onto : b < s.desks) (apart : a ≢ b) where
     same : entry_for s run a b ≡ grid_number (linked s) a b
@@ -95,8 +95,8 @@ module _ (s : Setup) (run : List ℕ) (unrefused : grid_refusal s (length run) �
     -- for two different desks it is 0 exactly where no list of calls lets desk b hear desk a
     pub unheard_iff : (entry_for s run a b ≡ 0) ↔ Unheard s a b
     unheard_iff =
-        let none = none_iff (linked_among_most s sound) a (is_desk_lem a from) b apart in
-        let heard = exactly s sound a b (is_desk_lem a from) apart in
+        let none = none_iff (linked_among_most s sound) a (is_desk a from) b apart in
+        let heard = exactly s sound a b (is_desk a from) apart in
         (λ z. heard.1 (none.0 (sym same ∙ z)), λ u. same ∙ none.1 (heard.0 u))
 
     module _ (room : List ℕ) (spacious : most_route_numbers ≤ length room) where

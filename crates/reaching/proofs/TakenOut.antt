@@ -38,7 +38,7 @@ taken_none was c l =
 -- one desk more
 pub taken_more : (was : List ℕ) (c : ℕ) (links : List ℕ) (n : ℕ) → c < most_desks → TakenOut was c links n → n < most_desks
     → TakenOut was c (set (set links (c * most_desks + n) 0) (n * most_desks + c) 0) (n + 1)
-taken_more was c links n is_desk_lem h l =
+taken_more was c links n desk h l =
     let from = set links (c * most_desks + n) 0 in
     let zero-stays : (xs : List ℕ) (i j : ℕ) → get_or xs j 0 ≡ 0 → get_or (set xs i 0) j 0 ≡ 0 = λ xs i j z. set_holds (λ (v : ℕ). v ≡ 0) xs i j 0 0 z (λ q. refl) in
     let put : (xs : List ℕ) (i : ℕ) → length xs ≡ most_pairs → i < most_pairs → get_or (set xs i 0) i 0 ≡ 0 = λ xs i m k. get_or-set_same xs i 0 0 (omega (arith, m)) in

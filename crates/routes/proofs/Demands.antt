@@ -26,19 +26,19 @@ use Rattle.routes.proofs.Fronts.{front_shows}
 use Rattle.routes.proofs.Reports.{with_shown, Sound, route_sound, routed_refused, room_refused, room_is, routed_none, routed_shown}
 
 module _ (s : Setup) (a b : ℕ) {n : ℕ} (h : Sound s a b n) where
-  is_desk_lem : a < most_desks
-  is_desk_lem = omega (arith, h.from, (accepted_sizes s h.setup).of_desks.high)
+  is_desk : a < most_desks
+  is_desk = omega (arith, h.from, (accepted_sizes s h.setup).of_desks.high)
 
   -- the number of links tells whether desk b can hear desk a
   unheard_told : (fewest_links (linked s) a b < far → ¬ Unheard s a b) × (far ≤ fewest_links (linked s) a b → Unheard s a b)
-  unheard_told = way_tells (linked_among_most s h.setup) a b is_desk_lem (exactly s h.setup a b is_desk_lem h.apart)
+  unheard_told = way_tells (linked_among_most s h.setup) a b is_desk (exactly s h.setup a b is_desk h.apart)
 
   -- the list at the front of a room shows the route
   front_told : fewest_links (linked s) a b < far → (rest : List ℕ)
       → ShownBy s a b (calls_for (fewest_links (linked s) a b)) (in_quads (route_calls s a (chain_of (linked s) a b)) ++ rest)
   front_told near rest =
-      let r = (fewest_links_iff (linked_among_most s h.setup) a b is_desk_lem).0 near in
-      let f = front_shows s h.setup every_desk a b is_desk_lem h.apart r rest in
+      let r = (fewest_links_iff (linked_among_most s h.setup) a b is_desk).0 near in
+      let f = front_shows s h.setup every_desk a b is_desk h.apart r rest in
       record { chain = f.chain; taken = f.taken; count = f.count; list = f.list; shows = f.shows; hears = unheard_told.0 near }
 
 -- the report's answer, and the room as it leaves it, meet demand 3

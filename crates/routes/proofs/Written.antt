@@ -28,7 +28,7 @@ use Rattle.routes.specs.Writers.{Own, walked, Ready}
 pub record Left (links : Links) (to room : List ℕ) (i d f k : ℕ) : Type 0 where
   pub end : ℕ
   pub chain : is_chain links d end (walk links to d k) ≡ true
-  pub is_desk_lem : d < most_desks
+  pub is_desk : d < most_desks
   pub is_file : f < most_files
   pub spacious : (i + (calls_for k + 1)) * call_width ≤ length room
 
@@ -91,7 +91,7 @@ module _ {s : Setup} {links : Links} {to room₀ : List ℕ} {i₀ d₀ f₀ k�
             left = record {
               end = w.left.end;
               chain = (next_chain s h own to d j w.left.end more).1;
-              is_desk_lem = desk_next;
+              is_desk = desk_next;
               is_file = file_next;
               spacious = omega (arith, w.left.spacious);
             };
@@ -127,7 +127,7 @@ module _ {s : Setup} {links to : List ℕ} {a : ℕ} {room : List ℕ} (h : Read
       record {
         end = h.end;
         chain = (next_chain s h.setup h.own to a after h.end started).1;
-        is_desk_lem = next_desk-lt s h.setup h.own to a after h.end started;
+        is_desk = next_desk-lt s h.setup h.own to a after h.end started;
         is_file = next_file_lt s h.setup h.own to a after h.end started;
         spacious = omega (arith, with_calls-length room 0 calls (omega (arith, h.spacious)), h.spacious, h.few, h.some);
       }

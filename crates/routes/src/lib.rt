@@ -1,5 +1,6 @@
 // The route report: whether desk A can be heard by desk B, and the list of calls that shows it.
 #![tactic(auto)]
+
 pub mod report;
 pub mod showing;
 mod writing;

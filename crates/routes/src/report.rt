@@ -10,6 +10,7 @@ use reaching::linking::links_of;
 use rules::{NO_SUCH_ROUTE_DESK, NOT_ACCEPTED, SAME_DESK, Setup, TOO_LITTLE_ROOM};
 
 // The refusal of a route, or 0: the order is 15, 12, 13, 11.
+#[tactic(auto, unfolding(crate::specs::Reports::route_refusal))]
 fn route_refusal(setup: Setup, a: u32, b: u32, room: usize) -> u32
     ensures { result ≡ route_refusal setup a b room }
 {

@@ -1,8 +1,7 @@
 -- `reaching::linking::mark_each` meets its contract. The loop's invariant: the numbers that stand among the entries passed are marked.
-use Prim.Native.Nat.{ℕ, ◌-◌}
+use Prim.Native.Nat.{ℕ}
 use mathlib.Core.Path.{sym, subst}
 use mathlib.Core.List.{List}
-use native.Mathlib.Omega.{arith}
 use lib.ListN.{length}
 use Rattle.reaching.proofs.Marked.{Marked, marked_none, marked_more, marked_all}
 use Rattle.reaching.proofs.linking.mark_each.Goals as goal
@@ -10,23 +9,8 @@ use Rattle.reaching.proofs.linking.mark_each.Goals as goal
 pub loop-i-init : goal.loop-i-init
 loop-i-init c = subst (λ (m : List ℕ). Marked (length c.args.marks.now) c.args.entries.now m 0 c.args.count) (sym c.requires.0) (marked_none _ _ _)
 
-pub bounds-entries-i : goal.bounds-entries-i
-bounds-entries-i c = omega (arith, c.requires.1)
-
-pub overflow_cast-at : goal.overflow_cast-at
-overflow_cast-at c = omega (arith, c.shared_slice_known-1.given c.loop-i.i)
-
-pub bounds-marks-at : goal.bounds-marks-at
-bounds-marks-at c = omega (arith, c.requires.2 _ c.loop-i-test.true, c.loop-i.invariant.long)
-
-pub overflow_add-i : goal.overflow_add-i
-overflow_add-i c = omega (arith, c.requires.1)
-
 pub loop-i-preserved : goal.loop-i-preserved
 loop-i-preserved c = marked_more _ _ _ _ _ c.loop-i.invariant c.loop-i-test.true (c.requires.2 _ c.loop-i-test.true)
-
-pub shape_of-marks : goal.shape_of-marks
-shape_of-marks c = c.loop-i.invariant.long
 
 pub returns : goal.returns
 returns c = marked_all _ _ _ _ _ c.loop-i.invariant c.loop-i-test.false
