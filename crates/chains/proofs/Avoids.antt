@@ -1,14 +1,14 @@
 -- Laws of chains among the desks other than one: they are the chains that it is not on.
 -- Assumes nothing.
 use Prim.Native.Nat.{ℕ}
-use mathlib.Core.Path.{◌≡◌, refl, sym, ◌∙◌}
-use mathlib.Core.Bool.{Bool, true, false, ◌||◌, true≢false}
+use mathlib.Core.Path.{◌≡◌, refl}
+use mathlib.Core.Bool.{Bool, true, false, ◌||◌}
 use mathlib.Core.Logic.{◌↔◌, ◌≢◌}
 use mathlib.Core.List.{List, [], ◌∷◌}
 use borrow.Author.Tests.{eqb-false, ne_eqb, not-true}
 use lib.Dec.{eqb}
-use Rattle.rules.proofs.Lists.{by_test, neither}
-use Rattle.chains.specs.Chains.{Links, others, links_among, is_chain, HasRoute}
+use Rattle.rules.proofs.Lists.{neither}
+use Rattle.chains.specs.Chains.{Links, others, links_among, is_chain}
 use Rattle.chains.proofs.Chains.{chain_none, chain_first, links_among_iff}
 
 -- a desk is among the others exactly where it is not the one
@@ -44,10 +44,3 @@ module _ (links : Links) (c b : ℕ) where
             let apart = eqb-false d c away in
             past.1 (link.1 ((others_iff c a).1 other, (others_iff c d).1 apart, l), (avoids_iff d apart xs).1 (r, rest)),
       )
-
-  -- so no route runs among the others exactly where c is on every chain
-  pub on_every_chain : (a : ℕ) → a ≢ c → (¬ HasRoute (links_among (others c) links) a b) ↔ ((xs : List ℕ) → is_chain links a b xs ≡ true → is_on c xs ≡ true)
-  on_every_chain a other = (
-    λ none xs h. by_test (is_on c xs) (λ t. t) (λ t. absurd (none (record { through = xs; chain = (avoids_iff a other xs).1 (h, t) }))),
-    λ every r. let (h, t) = (avoids_iff a other r.through).0 r.chain in true≢false (sym (every r.through h) ∙ t),
-  )

@@ -9,3 +9,4 @@ pub mod Pigeons
 pub mod Enough
 pub mod Acts
 pub mod Avoids
+pub mod EveryChain

@@ -1,10 +1,10 @@
 -- The laws of a list that has one more in front where a test passes.
 -- Assumes nothing.
-use Prim.Native.Nat.{ℕ, suc, ◌≤◌}
+use Prim.Native.Nat.{suc, ◌≤◌}
 use native.Mathlib.Omega.{arith}
 use mathlib.Core.Path.{◌≡◌, refl}
 use mathlib.Core.Bool.{Bool, true, false}
-use mathlib.Core.List.{List, [], ◌∷◌, ◌++◌}
+use mathlib.Core.List.{List, ◌∷◌, ◌++◌}
 use lib.Dec.{T}
 use lib.ListN.{length}
 use Rattle.secrecy.specs.Machine.{front_if}

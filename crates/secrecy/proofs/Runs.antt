@@ -1,6 +1,6 @@
 -- The laws of runs: a list in two parts runs one part after the other, each act has one answer, and a desk has those to its own acts.
 -- Assumes nothing.
-use Prim.Native.Nat.{ℕ, suc}
+use Prim.Native.Nat.{suc}
 use mathlib.Core.Path.{◌≡◌, refl, ap}
 use mathlib.Core.Bool.{Bool}
 use mathlib.Core.List.{List, [], ◌∷◌, ◌++◌}

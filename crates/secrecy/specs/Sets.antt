@@ -2,7 +2,7 @@
 -- against another.
 use Rattle.std.specs.Prelude.{ℕ, ◌≡◌}
 use mathlib.Core.List.{List, Memᴰ}
-use Rattle.std.proofs.Math.Option.{Option, none, some}
+use Rattle.std.proofs.Math.Option.{none, some}
 use Rattle.secrecy.specs.Machine.{Machine}
 use Rattle.secrecy.specs.Views.{Policy, Views}
 

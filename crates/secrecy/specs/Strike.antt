@@ -1,6 +1,6 @@
 -- Striking acts out of a list: the function, and what it must be, said without it.
 use Rattle.std.specs.Prelude.{ℕ, ◌≡◌, Bool, not, List, [], ◌∷◌}
-use Rattle.std.proofs.Math.Option.{Option, some}
+use Rattle.std.proofs.Math.Option.{some}
 use Rattle.secrecy.specs.Machine.{Machine, front_if, is_of}
 
 -- the list without the acts that pass the test

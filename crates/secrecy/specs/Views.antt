@@ -1,7 +1,7 @@
 -- What each desk sees of a state, who may change it, and the conditions that unwind secrecy to single acts (Rushby 1992). For the proof
 -- of demand 3: no entry's promise cites it.
 use Rattle.std.specs.Prelude.{ℕ, ◌≡◌, ◌⊎◌}
-use Rattle.std.proofs.Math.Option.{Option, none, some}
+use Rattle.std.proofs.Math.Option.{none, some}
 use Rattle.secrecy.specs.Machine.{Machine}
 
 -- a policy: which desk has a link to which
