@@ -4,8 +4,8 @@
  * goes from desk 0, the Scorer, to desk 2, the Buyers, passes desk 1, Release, and whether it still does with one right
  * too many; and for the number of links from every desk to every desk at once.
  *
- * bin/host-example builds and runs it. With a C compiler on x86-64 Linux, after `rt staticlib dirgewater`:
- *     cc -Iinclude examples/host.c target/staticlib/libdirgewater.a -o host && ./host
+ * bin/host-example builds and runs it. With a C compiler on x86-64 Linux, after `rt lib` in crates/dirgewater:
+ *     cc -Iinclude examples/host.c crates/dirgewater/out/libdirgewater.a -o host && ./host
  */
 #include <stdio.h>
 

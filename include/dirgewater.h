@@ -27,7 +27,8 @@
  * may call at once, each on a store of its own. Structs by value lie on the stack: bench/run prints how
  * much of it each form of a call takes.
  *
- * The archive is for x86-64 Linux. It asks for nothing but C's memcpy and memset.
+ * The archive is for x86-64 Linux, on a processor of level x86-64-v2 or above (SSE4.2). It asks for nothing but C's memcpy
+ * and memset.
  */
 #ifndef DIRGEWATER_H
 #define DIRGEWATER_H

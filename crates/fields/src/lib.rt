@@ -1,5 +1,6 @@
 // The lines of a text as code reads them: a cursor goes over the bytes once, field by field.
 #![tactic(auto)]
+
 pub mod parts;
 pub mod shapes;
 pub mod words;

@@ -154,7 +154,7 @@ pub fn calls_at(text: &[u8], at: usize) -> usize
 // A call line of a call that takes no extra number, which is then read as 0.
 fn plain_call_at(text: &[u8], at: usize) -> CallNumbers
     requires { at ≤ length text.now }
-    ensures file_value { let n = result.numbers in told result.next (n.operation ∷ n.process ∷ n.file ∷ []) ≡ line_at (read_as plain_shape) text.now at }
+    ensures line { let n = result.numbers in told result.next (n.operation ∷ n.process ∷ n.file ∷ []) ≡ line_at (read_as plain_shape) text.now at }
     ensures plain { result.numbers.extra ≡ 0 }
 {
     let op = plain_word_at(text, at);

@@ -78,9 +78,9 @@ pub q_with_calls : read_with_calls (setup_text ++ call_text) enough ≡ record {
 unfolding computes
 q_with_calls = refl
 
-pub q-calls : calls_read (setup_text ++ call_text) enough ≡ nine_calls
+pub q_calls : calls_read (setup_text ++ call_text) enough ≡ nine_calls
 unfolding computes
-q-calls = refl
+q_calls = refl
 
 -- "room for calls read below 4,096" comes before any line
 pub q_no_room : reached_with (setup_text ++ call_text) (enough - 1) ≡ refused 11 0

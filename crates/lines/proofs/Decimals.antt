@@ -94,15 +94,15 @@ within_sound (suc most) n l =
     }))
 
 -- enough is enough
-within-enough : (m k n : ℕ) → n < m → n < k → digits_within m n ≡ digits_within k n
-within-enough zero k n l h = absurd (omega arith)
-within-enough (suc m) zero n l h = absurd (omega arith)
-within-enough (suc m) (suc k) n l h =
+within_enough : (m k n : ℕ) → n < m → n < k → digits_within m n ≡ digits_within k n
+within_enough zero k n l h = absurd (omega arith)
+within_enough (suc m) zero n l h = absurd (omega arith)
+within_enough (suc m) (suc k) n l h =
     by_test (ltb n ten) (λ t. let s = ltb-true n ten t in within_small m n s ∙ sym (within_small k n s))
     (λ f.
     let s = ltb-false n ten f in
     within_large m n s
-    ∙ ap (λ (xs : List ℕ). xs ++ (digit (n % ten) ∷ [])) (within-enough m k (n / ten) (omega arith) (omega arith))
+    ∙ ap (λ (xs : List ℕ). xs ++ (digit (n % ten) ∷ [])) (within_enough m k (n / ten) (omega arith) (omega arith))
     ∙ sym (within_large k n s))
 
 -- one digit, and one more digit on the right of a number that is not 0
@@ -116,7 +116,7 @@ digits_of_more v d p l =
     let q : (v * ten + d) / ten ≡ v = omega arith in
     let r : (v * ten + d) % ten ≡ d = omega arith in
     within_large (v * ten + d) (v * ten + d) (omega arith)
-    ∙ rw (q, r, within-enough (v * ten + d) (suc v) v (omega arith) (omega arith))
+    ∙ rw (q, r, within_enough (v * ten + d) (suc v) v (omega arith) (omega arith))
 
 -- digits after a number that is not 0 are the digits of what they make of it
 digits_after : (v : ℕ) (xs : List ℕ) → 0 < v → are_digits xs ≡ true → digits_of (value_after v xs) ≡ digits_of v ++ xs

@@ -42,14 +42,14 @@ due_at t file_due s at fields = judged-at at (file_line fields) (file_order s) (
 due_at t calls_due s at fields = further_at t s at fields
 due_at t call_due s at fields = judged-at at (call_line fields) (λ n. call_line_order s) (after_call s)
 
-judge-at : (t : Text) (s : SoFar) (l : Line) → At l.at (judge t s l)
+judge_at : (t : Text) (s : SoFar) (l : Line) → At l.at (judge t s l)
 unfolding judge
-judge-at t s l =
+judge_at t s l =
     cond_holds (At l.at) l.whole (λ w. due_at t s.due s l.at (fields_of l.bytes)) (λ n. refl)
 
 -- a line is refused at its own offset
 pub refused_at_line : (t : Text) (s : SoFar) (l : Line) (r at : ℕ) → judge t s l ≡ refused r at → at ≡ l.at
-refused_at_line t s l r at e = rw e at (judge-at t s l)
+refused_at_line t s l r at e = rw e at (judge_at t s l)
 
 -- the first faulty line of several: those before it are sound
 record First (t : Text) (s : SoFar) (lines : List Line) (r at : ℕ) : Type 0 where
@@ -140,17 +140,17 @@ refused_why t text r at e = by (judge_all t (sound at_start) (lines_of text)) re
         })
 
 -- lines after lines are judged from what those reached
-judge_all-joined : (t : Text) (x : Reached) (before after : List Line) → judge_all t x (before ++ after) ≡ judge_all t (judge_all t x before) after
+judge_all_joined : (t : Text) (x : Reached) (before after : List Line) → judge_all t x (before ++ after) ≡ judge_all t (judge_all t x before) after
 unfolding judge_all
-judge_all-joined t x [] after = refl
-judge_all-joined t x (l ∷ before) after = judge_all-joined t (judge_next t x l) before after
+judge_all_joined t x [] after = refl
+judge_all_joined t x (l ∷ before) after = judge_all_joined t (judge_next t x l) before after
 
 -- and the other way: a faulty line after sound ones, or a missing one, refuses the text
 pub faulty_refused : (t : Text) (text : List ℕ) (r at : ℕ) → Faulty t text r at → read_text t text ≡ refused r at
 unfolding read_text judge_all
 faulty_refused t text r at f =
     ap (at_end t (length text))
-    (ap (judge_all t (sound at_start)) f.split ∙ judge_all-joined t (sound at_start) f.before (f.faulty ∷ f.after)
+    (ap (judge_all t (sound at_start)) f.split ∙ judge_all_joined t (sound at_start) f.before (f.faulty ∷ f.after)
     ∙ ap (λ (x : Reached). judge_all t x (f.faulty ∷ f.after)) f.sound_before ∙ ap (λ (x : Reached). judge_all t x f.after) f.refuses
     ∙ refused_stays t r at f.after)
 

@@ -95,15 +95,15 @@ pieces_first stop (b ∷ bytes) rest h =
     rw (not-true (eqb b stop) n, pieces_first stop bytes rest w)
 
 -- no piece holds the stop
-without-onto : (stop b : ℕ) (ps : List (List ℕ)) → eqb b stop ≡ false → none_holds stop ps ≡ true → none_holds stop (onto b ps) ≡ true
-without-onto stop b [] f h = rw f
-without-onto stop b (p ∷ more) f h = rw (f, h)
+without_onto : (stop b : ℕ) (ps : List (List ℕ)) → eqb b stop ≡ false → none_holds stop ps ≡ true → none_holds stop (onto b ps) ≡ true
+without_onto stop b [] f h = rw f
+without_onto stop b (p ∷ more) f h = rw (f, h)
 
-pub pieces-without : (stop : ℕ) (bytes : List ℕ) → none_holds stop (pieces stop bytes) ≡ true
+pub pieces_without : (stop : ℕ) (bytes : List ℕ) → none_holds stop (pieces stop bytes) ≡ true
 unfolding pieces
-pieces-without stop [] = refl
-pieces-without stop (b ∷ rest) =
-    by_test (eqb b stop) (λ t. rw t (pieces-without stop rest)) (λ f. rw f (without-onto stop b (pieces stop rest) f (pieces-without stop rest)))
+pieces_without stop [] = refl
+pieces_without stop (b ∷ rest) =
+    by_test (eqb b stop) (λ t. rw t (pieces_without stop rest)) (λ f. rw f (without_onto stop b (pieces stop rest) f (pieces_without stop rest)))
 
 -- pieces that hold no stop are what they join to is cut into
 pub pieces_of_joined : (stop : ℕ) (p : List ℕ) (more : List (List ℕ)) → none_holds stop (p ∷ more) ≡ true → pieces stop (joined stop (p ∷ more)) ≡ p ∷ more
@@ -116,7 +116,7 @@ pieces_of_joined stop p (q ∷ more) h =
 -- no field holds a tab, and fields that hold none are those of the line that they join to
 pub fields_without : (bytes : List ℕ) → none_holds tab (fields_of bytes) ≡ true
 unfolding fields_of
-fields_without bytes = pieces-without tab bytes
+fields_without bytes = pieces_without tab bytes
 
 pub fields_of-joined : (field : List ℕ) (more : List (List ℕ)) → none_holds tab (field ∷ more) ≡ true → fields_of (joined tab (field ∷ more)) ≡ field ∷ more
 unfolding fields_of
@@ -137,27 +137,28 @@ lines_last at bytes h = rw (pieces_last line_feed bytes h)
 -- each line stands where those before it end, the first at an offset
 pub data Placed : ℕ → List Line → Type 0 where
   placed_none : {at : ℕ} → Placed at []
-  placed-line : {at : ℕ} {l : Line} {lines : List Line} → l.at ≡ at → Placed (at + length (l.bytes ++ ending l.whole)) lines → Placed at (l ∷ lines)
+  placed_line : {at : ℕ} {l : Line} {lines : List Line} → l.at ≡ at → Placed (at + length (l.bytes ++ ending l.whole)) lines → Placed at (l ∷ lines)
 
-placed-lines_from : (at : ℕ) (ps : List (List ℕ)) → Placed at (lines_from at ps)
+placed_lines_from : (at : ℕ) (ps : List (List ℕ)) → Placed at (lines_from at ps)
 unfolding lines_from
-placed-lines_from at [] = placed_none
-placed-lines_from at ([] ∷ []) = placed_none
-placed-lines_from at ((b ∷ bytes) ∷ []) = placed-line refl placed_none
-placed-lines_from at (p ∷ (q ∷ more)) =
+placed_lines_from at [] = placed_none
+placed_lines_from at ([] ∷ []) = placed_none
+placed_lines_from at ((b ∷ bytes) ∷ []) = placed_line refl placed_none
+placed_lines_from at (p ∷ (q ∷ more)) =
     let same : at + length p + 1 ≡ at + length (p ++ (line_feed ∷ [])) = simp length-append (omega arith) in
-    placed-line refl (subst (λ (n : ℕ). Placed n (lines_from (at + length p + 1) (q ∷ more))) same (placed-lines_from (at + length p + 1) (q ∷ more)))
+    placed_line refl (subst (λ (n : ℕ). Placed n (lines_from (at + length p + 1) (q ∷ more))) same (placed_lines_from (at + length p + 1) (q ∷ more)))
 
 placed_at : {at : ℕ} (before : List Line) (l : Line) (after : List Line) → Placed at (before ++ (l ∷ after)) → l.at ≡ at + length (text_of before)
 unfolding text_of
-placed_at [] l after (placed-line e rest) = e ∙ omega arith
-placed_at (m ∷ before) l after (placed-line e rest) = placed_at before l after rest ∙ simp length-append (omega arith)
+placed_at [] l after (placed_line e rest) = e ∙ omega arith
+placed_at {at = at} (m ∷ before) l after (placed_line e rest) =
+    placed_at {at = at + length (m.bytes ++ ending m.whole)} before l after rest ∙ simp length-append (omega arith)
 
 -- the offset of a line is the length of the lines before it, with their LFs
 pub line_offset : (text : List ℕ) (before : List Line) (l : Line) (after : List Line) → lines_of text ≡ before ++ (l ∷ after) → l.at ≡ length (text_of before)
 unfolding lines_of
 line_offset text before l after e =
-    placed_at before l after (subst (λ (ls : List Line). Placed 0 ls) e (placed-lines_from 0 (pieces line_feed text))) ∙ omega arith
+    placed_at before l after (subst (λ (ls : List Line). Placed 0 ls) e (placed_lines_from 0 (pieces line_feed text))) ∙ omega arith
 
 -- lines as a text is cut into: none holds an LF, each is whole but what may follow the last LF, which is not empty
 pub data Cut : List Line → Type 0 where
@@ -176,20 +177,20 @@ cut_lines_from at (p ∷ (q ∷ more)) h =
 
 pub lines_cut : (text : List ℕ) → Cut (lines_of text)
 unfolding lines_of
-lines_cut text = cut_lines_from 0 (pieces line_feed text) (pieces-without line_feed text)
+lines_cut text = cut_lines_from 0 (pieces line_feed text) (pieces_without line_feed text)
 
 pub lines_placed : (text : List ℕ) → Placed 0 (lines_of text)
 unfolding lines_of
-lines_placed text = placed-lines_from 0 (pieces line_feed text)
+lines_placed text = placed_lines_from 0 (pieces line_feed text)
 
 -- and such lines, each in its place, are the lines of the text that they make up
 lines_from_of_text : (at : ℕ) (lines : List Line) → Cut lines → Placed at lines → lines_from at (pieces line_feed (text_of lines)) ≡ lines
 unfolding text_of
 lines_from_of_text at [] cut_none p = lines_last at [] refl
-lines_from_of_text at lines (cut_last {at = k} {b = b} {bytes = bytes} w) (placed-line e p) =
+lines_from_of_text at lines (cut_last {at = k} {b = b} {bytes = bytes} w) (placed_line e p) =
     ap (λ (t : List ℕ). lines_from at (pieces line_feed t)) (append-nil (b ∷ bytes)) ∙ lines_last at (b ∷ bytes) w
     ∙ ap (λ (n : ℕ). line n (b ∷ bytes) false ∷ []) (sym e)
-lines_from_of_text at lines (cut_line {at = k} {bytes = bytes} {lines = rest} w c) (placed-line e p) =
+lines_from_of_text at lines (cut_line {at = k} {bytes = bytes} {lines = rest} w c) (placed_line e p) =
     let next : at + length (bytes ++ (line_feed ∷ [])) ≡ at + length bytes + 1 = simp length-append (omega arith) in
     lines_first at bytes (text_of rest) w
     ∙ cc (e, lines_from_of_text (at + length bytes + 1) rest c (subst (λ (n : ℕ). Placed n rest) next p))

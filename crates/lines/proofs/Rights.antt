@@ -42,8 +42,8 @@ all_before : (rest : List Access) (b a : Access) → AllBefore rest b → Before
 all_before [] b a h k = tt
 all_before (c ∷ rest) b a h k = (before_trans h.0 k, all_before rest b a h.1 k)
 
-rises-before : (b a : Access) (earlier : List Access) → rises (b ∷ earlier) a ≡ true → Before b a
-rises-before b a earlier e =
+rises_before : (b a : Access) (earlier : List Access) → rises (b ∷ earlier) a ≡ true → Before b a
+rises_before b a earlier e =
     by_test (ltb b.desk a.desk) (λ t. by_desk (ltb-true b.desk a.desk t))
     (λ f.
     let (d, c) = (and-eq-true_iff (eqb b.desk a.desk) (ltb b.class a.class)).0 (rw f at e) in
@@ -53,7 +53,7 @@ rises-before b a earlier e =
 pub risen_more : (lines : List Access) (a : Access) → Risen lines → rises lines a ≡ true → Risen (a ∷ lines)
 risen_more [] a h e = (tt, tt)
 risen_more (b ∷ earlier) a h e =
-    let k = rises-before b a earlier e in
+    let k = rises_before b a earlier e in
     ((k, all_before earlier b a h.0 k), h)
 
 -- a line stands among others
@@ -62,6 +62,7 @@ pub data Among (a : Access) : List Access → Type 0 where
   there : {b : Access} {rest : List Access} → Among a rest → Among a (b ∷ rest)
 
 among_before : {a b : Access} (rest : List Access) → Among a rest → AllBefore rest b → Before a b
+among_before {a = a} {b = b} [] x h = elim x [ ]
 among_before (c ∷ rest) here h = h.0
 among_before (c ∷ rest) (there m) h = among_before rest m h.1
 
@@ -73,6 +74,7 @@ pair_apart a b (by_class e h) = rw (ne_eqb b.class a.class (omega arith)) (and-f
 -- the right of a pair is that of its access line
 pub right_of_line : (lines : List Access) (a : Access) → Risen lines → Among a lines → right_read lines a.desk a.class ≡ a.right
 unfolding right_read
+right_of_line [] a h x = elim x [ ]
 right_of_line (b ∷ rest) a h here = rw (eq-eqb a.desk a.desk refl, eq-eqb a.class a.class refl)
 right_of_line (b ∷ rest) a h (there m) = rw (pair_apart a b (among_before rest m h.0)) (right_of_line rest a h.1 m)
 

@@ -1,5 +1,6 @@
 // What the program prints: lines of answers, and the line of a refused text.
 #![tactic(auto)]
+
 pub mod entry;
 mod writing;
 

@@ -90,6 +90,7 @@ rights_more a access d l =
 
 -- a line among lines inside the counts lies inside them
 among_inside : (desks classes : ℕ) (access : List Access) → AllInside desks classes access → (a : Access) → Among a access → (a.desk < desks) × (a.class < classes)
+among_inside desks classes [] _ a x3 = elim x3 [ ]
 among_inside desks classes (b ∷ access) (d, c, i) a here = (d, c)
 among_inside desks classes (b ∷ access) (d, c, i) a (there m) = among_inside desks classes access i a m
 

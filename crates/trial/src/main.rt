@@ -1,5 +1,6 @@
 // The twelve sheets of trial, run through the entries. That every check passes is proved from the table's one claim.
 #![tactic(auto)]
+
 mod comparing;
 
 ghost use Rattle.std.specs.Prelude.{◌≡◌, true};
