@@ -10,6 +10,7 @@ use routes::showing::show_route;
 use rules::{NO_SUCH_ROUTE_DESK, NOT_ACCEPTED, SAME_DESK, Setup, TOO_LITTLE_ROOM};
 
 // The refusal of a gate, or 0: the order is 15, 12, 13, 11.
+#[tactic(auto, unfolding(crate::specs::Gates::gate_refusal))]
 fn gate_refusal(setup: Setup, a: u32, b: u32, c: u32, room: usize) -> u32
     ensures { result ≡ gate_refusal setup a b c room }
 {

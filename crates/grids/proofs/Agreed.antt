@@ -31,7 +31,7 @@ use Rattle.routes.specs.declared.RouteAnswer.TheVariants.{NoRoute, Route}
 use Rattle.routes.proofs.Reports.{sound_unrefused, routed_none, routed_shown}
 use Rattle.routes.proofs.Demands.{no_route_exactly}
 use Rattle.grids.specs.Grids.{grid_length, grid_refusal, grid_number, grid_place, grid_over, gridded, room_after, NumberTells, GridTells}
-use Rattle.grids.proofs.Squares.{row_of, column_of_lem, place_lt}
+use Rattle.grids.proofs.Squares.{row_told, column_told, place_lt}
 use Rattle.grids.proofs.Whole.{grid_sound, gridded_refused, room_refused, gridded_filled, room_filled}
 
 module _ (links : Links) (a b : ℕ) where
@@ -82,7 +82,7 @@ module _ (s : Setup) (run : List ℕ) (unrefused : grid_refusal s (length run) �
       ap (λ (xs : List ℕ). get_or xs i 0) (room_filled s run unrefused)
       ∙ get_or-append (table n number) (drop n run) 0 i (omega (arith, inside, length-table n number))
       ∙ get_or-table n number i 0 inside
-      ∙ cc (row_of s.desks a b m, column_of_lem s.desks a b m)
+      ∙ cc (row_told s.desks a b m, column_told s.desks a b m)
 
   -- for a desk and itself the entry is 0
   pub own_entry : (a : ℕ) → a < s.desks → entry_for s run a a ≡ 0

@@ -21,21 +21,21 @@ grid_small s e = few_numbers s.desks (accepted_sizes s e).of_desks.high
 
 module _ (desks a b : ℕ) (column : b < desks) where
   -- the place tells its row and its column
-  pub row_of : grid_place desks a b / desks ≡ a
-  row_of = mul-add-div_right (omega arith) a b ∙ ap (λ (k : ℕ). a + k) (div-eq_of_lt column) ∙ omega arith
+  pub row_told : grid_place desks a b / desks ≡ a
+  row_told = mul-add-div_right (omega arith) a b ∙ ap (λ (k : ℕ). a + k) (div-eq_of_lt column) ∙ omega arith
 
-  pub column_of_lem : grid_place desks a b % desks ≡ b
-  column_of_lem = mul-add-mod_self_right a desks b ∙ mod-eq_of_lt column
+  pub column_told : grid_place desks a b % desks ≡ b
+  column_told = mul-add-mod_self_right a desks b ∙ mod-eq_of_lt column
 
   pub place_lt : a < desks → grid_place desks a b < desks * desks
   place_lt row = omega (arith, mul-le-mul_right desks row)
 
 -- places of one column in two rows, or of two columns, are apart
 pub same_row : (desks a a' b b' : ℕ) → b < desks → b' < desks → grid_place desks a b ≡ grid_place desks a' b' → a ≡ a'
-same_row desks a a' b b' l l' e = sym (row_of desks a b l) ∙ ap (λ (i : ℕ). i / desks) e ∙ row_of desks a' b' l'
+same_row desks a a' b b' l l' e = sym (row_told desks a b l) ∙ ap (λ (i : ℕ). i / desks) e ∙ row_told desks a' b' l'
 
 pub same_column : (desks a a' b b' : ℕ) → b < desks → b' < desks → grid_place desks a b ≡ grid_place desks a' b' → b ≡ b'
-same_column desks a a' b b' l l' e = sym (column_of_lem desks a b l) ∙ ap (λ (i : ℕ). i % desks) e ∙ column_of_lem desks a' b' l'
+same_column desks a a' b b' l l' e = sym (column_told desks a b l) ∙ ap (λ (i : ℕ). i % desks) e ∙ column_told desks a' b' l'
 
 some_desk : (desks i : ℕ) → i < desks * desks → 0 < desks
 some_desk zero i h = absurd (not-suc-le-zero h)

@@ -9,6 +9,7 @@ use reaching::linking::links_of;
 use rules::{NOT_ACCEPTED, Setup, TOO_LITTLE_ROOM};
 
 // The refusal of a grid, or 0: the order is 15, 11.
+#[tactic(auto, unfolding(crate::specs::Grids::grid_refusal))]
 fn grid_refusal(setup: Setup, room: usize) -> u32
     ensures { result ≡ grid_refusal setup room }
 {

@@ -23,8 +23,8 @@ use Rattle.routes.specs.Writers.{calls_along}
 use Rattle.routes.specs.declared.RouteAnswer.TheVariants.{NoRoute, Route, Refused}
 
 -- "61 calls or 244 numbers suffice"
-pub most_calls_lem : calls_for most_links ≡ 61
-most_calls_lem = refl
+pub most_route_calls : calls_for most_links ≡ 61
+most_route_calls = refl
 
 pub most_numbers : most_route_numbers ≡ 244
 most_numbers = refl
