@@ -1,5 +1,6 @@
 // What a program in another language is handed: an answer as two numbers, and beside it the next store.
 #![tactic(auto)]
+
 pub mod by_value;
 pub mod lent;
 pub mod texts;

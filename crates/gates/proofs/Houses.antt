@@ -14,7 +14,8 @@ use Rattle.rules.specs.declared.Setup.{Setup}
 use Rattle.rules.proofs.Setups.{accepted_sizes}
 use Rattle.chains.specs.Chains.{is_chain, HasRoute, chain_of}
 use Rattle.chains.proofs.Acts.{linked_among_most}
-use Rattle.chains.proofs.Avoids.{is_on, on_every_chain}
+use Rattle.chains.proofs.Avoids.{is_on}
+use Rattle.chains.proofs.EveryChain.{on_every_chain}
 use Rattle.chains.proofs.Enough.{report_takes}
 use Rattle.routes.specs.Reports.{routed}
 use Rattle.routes.specs.declared.RouteAnswer.TheVariants.{NoRoute}
