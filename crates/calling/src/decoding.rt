@@ -11,6 +11,7 @@ use rules::{
 };
 
 // The refusal of a call's numbers, or 0: the order is 5, 6, 7, 8, 9.
+#[tactic(auto, unfolding(rules::specs::Refusals::numbers_refusal))]
 fn numbers_refusal(setup: Setup, n: Numbers) -> u32
     ensures { result ≡ numbers_refusal setup n }
 {
@@ -49,6 +50,7 @@ fn numbers_refusal(setup: Setup, n: Numbers) -> u32
 }
 
 // The call of a code from the first to the last.
+#[tactic(auto, unfolding(rules::specs::Calls::call_of))]
 fn call_of(n: Numbers) -> Call
     ensures { result ≡ call_of n }
 {

@@ -102,6 +102,7 @@ fn quiet(meeting: Meeting) -> Turn
 
 // The rule of each code, on what the call looks at. The tests are joined by `&`: one branch for one row of the table.
 
+#[tactic(auto, unfolding(crate::specs::Turns::turn_of))]
 fn read(look: Looks, p: u32, f: u32) -> Turn
     requires { p < most_processes }
     ensures { result ≡ turn_of (Call.Read p f) look }
@@ -118,6 +119,7 @@ fn read(look: Looks, p: u32, f: u32) -> Turn
     }
 }
 
+#[tactic(auto, unfolding(crate::specs::Turns::turn_of))]
 fn write(look: Looks, p: u32, f: u32, x: u32) -> Turn
     requires { p < most_processes }
     ensures { result ≡ turn_of (Call.Write p f x) look }
@@ -130,6 +132,7 @@ fn write(look: Looks, p: u32, f: u32, x: u32) -> Turn
     }
 }
 
+#[tactic(auto, unfolding(crate::specs::Turns::turn_of))]
 fn lock(look: Looks, p: u32, f: u32) -> Turn
     requires { p < most_processes }
     ensures { result ≡ turn_of (Call.Lock p f) look }
@@ -142,6 +145,7 @@ fn lock(look: Looks, p: u32, f: u32) -> Turn
     }
 }
 
+#[tactic(auto, unfolding(crate::specs::Turns::turn_of))]
 fn unlock(look: Looks, p: u32, f: u32) -> Turn
     requires { p < most_processes }
     ensures { result ≡ turn_of (Call.Unlock p f) look }
@@ -154,6 +158,7 @@ fn unlock(look: Looks, p: u32, f: u32) -> Turn
     }
 }
 
+#[tactic(auto, unfolding(crate::specs::Turns::turn_of))]
 fn open(look: Looks, p: u32, f: u32) -> Turn
     requires { p < most_processes }
     ensures { result ≡ turn_of (Call.Open p f) look }
@@ -166,6 +171,7 @@ fn open(look: Looks, p: u32, f: u32) -> Turn
     }
 }
 
+#[tactic(auto, unfolding(crate::specs::Turns::turn_of))]
 fn close(look: Looks, p: u32, f: u32) -> Turn
     requires { p < most_processes }
     ensures { result ≡ turn_of (Call.Close p f) look }
@@ -178,6 +184,7 @@ fn close(look: Looks, p: u32, f: u32) -> Turn
     }
 }
 
+#[tactic(auto, unfolding(crate::specs::Turns::turn_of))]
 fn testlock(look: Looks, p: u32, f: u32) -> Turn
     requires { p < most_processes }
     ensures { result ≡ turn_of (Call.Testlock p f) look }
@@ -194,6 +201,7 @@ fn testlock(look: Looks, p: u32, f: u32) -> Turn
     }
 }
 
+#[tactic(auto, unfolding(crate::specs::Turns::turn_of))]
 fn copy(look: Looks, p: u32, f: u32, x: u32) -> Turn
     requires { p < most_processes }
     ensures { result ≡ turn_of (Call.Copy p f x) look }

@@ -21,7 +21,7 @@ walk-length links to d (suc k) = ap suc (walk-length links to (next_desk links t
 
 -- desk d stands k links from b
 record Stands (links : Links) (d b k : ℕ) : Type 0 where
-  is_desk_lem : d < most_desks
+  is_desk : d < most_desks
   many : fewest_links links d b ≡ k
   near : k < far
 
@@ -33,7 +33,7 @@ module _ {links : Links} (among : AmongDesks most_desks links) (b : ℕ) where
   -- so many are the fewest links from it
   stands_fewest : {d k : ℕ} → Stands links d b k → (xs : List ℕ) × Fewest links d b xs × (length xs ≡ k)
   stands_fewest {d} at =
-      let (xs, f, q) = reach_fewest among b most_links (omega arith) d at.is_desk_lem (omega (arith, at.many, at.near)) in (xs, f, q ∙ at.many)
+      let (xs, f, q) = reach_fewest among b most_links (omega arith) d at.is_desk (omega (arith, at.many, at.near)) in (xs, f, q ∙ at.many)
 
   module _ {d k : ℕ} (at : Stands links d b (suc k)) where
     module _ (u : ℕ) (rest : List ℕ) (c : is_chain links d b (u ∷ rest) ≡ true) (q : length rest ≡ k) where
@@ -42,7 +42,7 @@ module _ {links : Links} (among : AmongDesks most_desks links) (b : ℕ) where
       first_stands =
           let (l, r) = (chain_first links d b u rest).0 c in
           let desk = (among.ends d u l).1 in
-          record { is_desk_lem = desk; many = from l r (reach-tells among b most_links (omega arith) u desk); near = omega (arith, at.near) }
+          record { is_desk = desk; many = from l r (reach-tells among b most_links (omega arith) u desk); near = omega (arith, at.near) }
         where
           from : links d u ≡ true → is_chain links u b rest ≡ true → Tells links u b most_links (fewest_links links u b) → fewest_links links u b ≡ k
           from l r (fewest_links_lem m xs f z) =
@@ -66,12 +66,12 @@ module _ {links : Links} (among : AmongDesks most_desks links) (b : ℕ) where
         let (xs, f, q) = stands_fewest at in
         let h = (lowest_iff most_desks (leads links to d k)).1 (some_leads xs f.chain q) in
         let (l, m) = (leads_iff links to d k _).0 (lowest_holds most_desks (leads links to d k) h) in
-        (l, record { is_desk_lem = h; many = m; near = omega (arith, at.near) })
+        (l, record { is_desk = h; many = m; near = omega (arith, at.near) })
       where
         some_leads : (xs : List ℕ) → is_chain links d b xs ≡ true → length xs ≡ suc k → some_below most_desks (leads links to d k) ≡ true
         some_leads [] c q = absurd (omega arith)
         some_leads (u ∷ rest) c q =
-            some_below-true most_desks (leads links to d k) u (first_stands u rest c (omega arith)).is_desk_lem (first_leads u rest c (omega arith))
+            some_below-true most_desks (leads links to d k) u (first_stands u rest c (omega arith)).is_desk (first_leads u rest c (omega arith))
 
   walk_chain : (k d : ℕ) → Stands links d b k → is_chain links d b (walk links to d k) ≡ true
   unfolding walk
@@ -103,7 +103,7 @@ pub chain_of_taken : {links : Links} → AmongDesks most_desks links → (a b : 
 unfolding chain_of
 chain_of_taken {links} among a b l h =
     let k = fewest_links links a b in
-    let at : Stands links a b k = record { is_desk_lem = l; many = refl; near = h } in
+    let at : Stands links a b k = record { is_desk = l; many = refl; near = h } in
     let (xs, f, q) = stands_fewest among b at in
     let long = walk-length links (reach links b most_links) a k in
     record {

@@ -73,6 +73,7 @@ fn some_from(entries: &[u8], bound: usize) -> bool
 }
 
 // The refusal of a setup's bytes, or 0: the order is 1, 10, 2, 3, 4, and no product is made before 1 is ruled out.
+#[tactic(auto, unfolding(rules::specs::Refusals::setup_refusal))]
 fn setup_refusal(
     desks: u32,
     classes: u32,

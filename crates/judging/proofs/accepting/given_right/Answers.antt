@@ -1,7 +1,6 @@
 -- `judging::accepting::given_right` meets its contract, by its one test; the place asked for is below the table's end.
 use Prim.Native.Nat.{ℕ, ◌*◌, ◌<◌, ◌≤◌}
 use native.Mathlib.Nat.{le_of_lt, mul-le-mul_right}
-use native.Mathlib.Omega.{arith}
 use borrow.Author.Tests.{lt-ltb, le-ltb}
 use Rattle.rules.specs.Sizes.{most_desks}
 use Rattle.rules.specs.Setups.{given_right}
@@ -10,12 +9,6 @@ use Rattle.judging.proofs.accepting.given_right.Goals as goal
 -- a desk's row begins below the table's end
 below : (d classes : ℕ) → d < most_desks → d * classes ≤ most_desks * classes
 below d classes l = mul-le-mul_right classes (le_of_lt l)
-
-pub overflow_mul-d : goal.overflow_mul-d
-overflow_mul-d c = omega (arith, below c.args.d c.args.classes c.requires.1)
-
-pub overflow_add-d : goal.overflow_add-d
-overflow_add-d c = omega (arith, below c.args.d c.args.classes c.requires.1)
 
 pub returns-then-t-classes : goal.returns-then-t-classes
 unfolding given_right

@@ -27,24 +27,14 @@ pub returns-then-holder-ne0 : goal.returns-then-holder-ne0
 unfolding file_is_blank
 returns-then-holder-ne0 c = simp (ne_eqb _ _ c.if-holder-ne0.true)
 
-pub overflow_mul-start : goal.overflow_mul-start
-overflow_mul-start c = omega (arith, c.requires.0)
-
-pub overflow_add-end : goal.overflow_add-end
-overflow_add-end c = omega (arith, c.requires.0)
-
-pub slice_bounds-entries_fit-count : goal.slice_bounds-entries_fit-count
-slice_bounds-entries_fit-count c = omega (arith, c.requires.0)
-
-pub slice_bounds-entries_fit-start : goal.slice_bounds-entries_fit-start
-slice_bounds-entries_fit-start c = omega (arith, c.requires.0)
-
-pub slice_bounds-entries_fit-end : goal.slice_bounds-entries_fit-end
-slice_bounds-entries_fit-end c = omega (arith, c.requires.0, c.requires.1)
-
 pub returns-then-not-entries_fit : goal.returns-then-not-entries_fit
 unfolding file_is_blank
-returns-then-not-entries_fit c = simp (eq-eqb _ _ c.if-holder-ne0.false, known ((rw add-sub_cancel_left at c.entries_fit.ensures) ∙ shut c.args.marks.now c.args.f (omega (arith, c.requires.0, c.requires.1))) c.if-not-entries_fit.true)
+returns-then-not-entries_fit c =
+    simp (
+      eq-eqb _ _ c.if-holder-ne0.false,
+      known ((rw add-sub_cancel_left at c.entries_fit.ensures) ∙ shut c.args.marks.now c.args.f (omega (arith, c.requires.0, c.requires.1)))
+          c.if-not-entries_fit.true,
+    )
 
 pub returns : goal.returns
 unfolding file_is_blank

@@ -2,18 +2,9 @@
 use native.Mathlib.Omega.{arith}
 use Rattle.rules.specs.Setups.{may_read}
 use Rattle.rules.specs.Stores.{mark_fits, marks_fit}
-use Rattle.rules.proofs.Passed.{passed_none, passed_more, passed_all, stopped_at}
+use Rattle.rules.proofs.Passed.{passed_more, passed_all, stopped_at}
 use Rattle.rules.proofs.Told.{known}
 use Rattle.judging.proofs.fitting.marks_fit.Goals as goal
-
-pub loop-p-init : goal.loop-p-init
-loop-p-init c = passed_none _ _
-
-pub overflow_add-start : goal.overflow_add-start
-overflow_add-start c = omega (arith, c.requires.0)
-
-pub bounds-marks-start : goal.bounds-marks-start
-bounds-marks-start c = omega (arith, c.requires.0, c.requires.1)
 
 pub returns-then-not-mark_fits : goal.returns-then-not-mark_fits
 unfolding marks_fit mark_fits may_read

@@ -2,18 +2,12 @@
 use Prim.Native.Nat.{◌*◌}
 use mathlib.Core.Path.{◌≡◌}
 use native.Mathlib.Omega.{arith}
-use lib.ListN.{take, length-take}
+use lib.ListN.{take}
 use Rattle.rules.specs.Stores.{fresh_store}
 use Rattle.rules.specs.Calls.{calls_in, calls_of}
 use Rattle.lists.specs.Lists.{answer_width, answers_over, in_numbers}
 use Rattle.printing.proofs.Ran.{answers_of-numbers, answers_front}
 use Rattle.printing.proofs.entry.print_calls.Goals as goal
-
-pub slice_bounds-put_answers-end : goal.slice_bounds-put_answers-end
-slice_bounds-put_answers-end c = simp length-take (omega (arith, c.requires.0.few))
-
-pub put_answers-requires : goal.put_answers-requires
-put_answers-requires c = simp length-take (omega (arith, c.requires.0.few, c.requires.1))
 
 pub returns : goal.returns
 returns c =

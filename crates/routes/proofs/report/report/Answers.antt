@@ -21,7 +21,12 @@ use Rattle.routes.proofs.report.report.Goals as goal
 
 -- an answer and a room that are the report's keep all that it promises
 promised : (s : Setup) (a b : ℕ) (was : List ℕ) {after : List ℕ} {r : RouteAnswer} → r ≡ routed s a b (length was) → after ≡ room_after s a b was
-    → record { value : r ≡ routed s a b (length was); room : after ≡ room_after s a b was; demand3 : Demand3 s a b r after; numbers : route_numbers_of r ≡ route_numbers_of (routed s a b (length was)) }
+    → record {
+      value : r ≡ routed s a b (length was);
+      room : after ≡ room_after s a b was;
+      demand3 : Demand3 s a b r after;
+      numbers : route_numbers_of r ≡ route_numbers_of (routed s a b (length was));
+    }
 promised s a b was e w = record { value = e; room = w; demand3 = rw (e, w) (demand3_met s a b was); numbers = ap route_numbers_of e }
 
 -- the two desks of a route that is not refused are below the most desks

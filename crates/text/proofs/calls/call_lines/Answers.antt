@@ -1,30 +1,17 @@
 -- `text::calls::call_lines` meets its contract. The loop's invariant: the lines before the cursor are sound, and their calls stand in front.
 use native.Mathlib.Omega.{arith}
-use Rattle.text.proofs.Gathered.{gathered_none, gathered_all, gathered_length, gathered_past_most, gathered_broken, gathered_past, gathered_more}
+use Rattle.text.proofs.Gathered.{gathered_none, gathered_all, gathered_past_most, gathered_broken, gathered_past, gathered_more}
 use Rattle.text.proofs.calls.call_lines.Goals as goal
 
 pub loop-at-init : goal.loop-at-init
 loop-at-init c = gathered_none _ _ _ c.requires.0
 
-pub shape_of-calls-then-count-ge-CALLS : goal.shape_of-calls-then-count-ge-CALLS
-shape_of-calls-then-count-ge-CALLS c = gathered_length _ _ _ _ _ _ c.loop-at.invariant c.requires.1
-
 pub returns-then-count-ge-CALLS : goal.returns-then-count-ge-CALLS
 returns-then-count-ge-CALLS c = gathered_past_most _ _ _ _ _ _ c.loop-at.invariant c.loop-at-test.true c.if-count-ge-CALLS.true
-
-pub call_at-line-requires : goal.call_at-line-requires
-call_at-line-requires c = c.loop-at.invariant.within
-
-pub shape_of-calls-then-line-eq0 : goal.shape_of-calls-then-line-eq0
-shape_of-calls-then-line-eq0 c = gathered_length _ _ _ _ _ _ c.loop-at.invariant c.requires.1
 
 pub returns-then-line-eq0 : goal.returns-then-line-eq0
 returns-then-line-eq0 c =
     gathered_broken _ _ _ _ _ _ c.loop-at.invariant c.loop-at-test.true _ _ c.call_at-line.ensures c.if-line-eq0.true
-
-pub put_call-requires : goal.put_call-requires
-put_call-requires c =
-    omega (arith, gathered_length _ _ _ _ _ _ c.loop-at.invariant c.requires.1, c.if-count-ge-CALLS.false)
 
 pub loop-at-smaller : goal.loop-at-smaller
 loop-at-smaller c =
@@ -34,9 +21,6 @@ pub loop-at-preserved : goal.loop-at-preserved
 loop-at-preserved c =
     rw c.put_call.ensures
     (gathered_more _ _ _ _ _ _ c.loop-at.invariant c.loop-at-test.true _ _ c.call_at-line.ensures c.if-line-eq0.false c.requires.1 c.if-count-ge-CALLS.false)
-
-pub shape_of-calls : goal.shape_of-calls
-shape_of-calls c = gathered_length _ _ _ _ _ _ c.loop-at.invariant c.requires.1
 
 pub returns : goal.returns
 returns c = gathered_all _ _ _ _ _ _ c.loop-at.invariant c.loop-at-test.false

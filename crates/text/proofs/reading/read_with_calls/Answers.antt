@@ -6,7 +6,7 @@ use Rattle.lines.specs.declared.GivenText.{GivenText}
 use Rattle.lines.specs.Readings.{calls_follow}
 use Rattle.lines.proofs.Entries.{reached_no_room, reached_room}
 use Rattle.text.proofs.Ended.{when_sound, when_refused}
-use Rattle.text.proofs.Answered.{with_answered, with_refused, calls_broken, calls-within, call_refused, text_read, text_given, front_of_run, run_holds}
+use Rattle.text.proofs.Answered.{with_answered, with_refused, calls_broken, calls-within, call_refused, text_read, text_given, front_of_run}
 use Rattle.text.proofs.reading.read_with_calls.Goals as goal
 
 pub returns-then-room-clause-value : goal.returns-then-room-clause-value
@@ -74,19 +74,6 @@ returns-then-lines-ne0-clause-room c =
 
 pub returns-then-lines-ne0-clause-numbers : goal.returns-then-lines-ne0-clause-numbers
 returns-then-lines-ne0-clause-numbers c = ap (λ (g : GivenText). text_numbers_of g.reading) (returns-then-lines-ne0-clause-value c)
-
-pub overflow_mul-lines : goal.overflow_mul-lines
-overflow_mul-lines c =
-    omega (arith, (when_sound _ _ _ c.if-lines-ne0.false c.call_lines-lines.ensures).few)
-
-pub copy_front-requires : goal.copy_front-requires
-copy_front-requires c =
-    let read = when_sound _ _ _ c.if-lines-ne0.false c.call_lines-lines.ensures in
-    (omega (arith, read.few, c.if-room.false), run_holds _ _ _ _ _ read)
-
-pub overflow_cast-reading : goal.overflow_cast-reading
-overflow_cast-reading c =
-    omega (arith, (when_sound _ _ _ c.if-lines-ne0.false c.call_lines-lines.ensures).few)
 
 pub returns-clause-value : goal.returns-clause-value
 returns-clause-value c =

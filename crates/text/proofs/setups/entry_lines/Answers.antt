@@ -2,33 +2,18 @@
 use mathlib.Core.Path.{◌≡◌}
 use native.Mathlib.Omega.{arith}
 use Rattle.text.proofs.Ended.{so_refused}
-use Rattle.text.proofs.Entered.{entered_none, entered_all, entered_broken, entered_past, entered_bound, entered_order, entered_more}
+use Rattle.text.proofs.Entered.{entered_broken, entered_past, entered_bound, entered_order, entered_more}
 use Rattle.text.proofs.setups.entry_lines.Goals as goal
-
-pub loop-i-init : goal.loop-i-init
-loop-i-init c = entered_none _ _ _ _ _ _ c.requires.0
-
-pub entry_line_at-line-requires : goal.entry_line_at-line-requires
-entry_line_at-line-requires c = (c.loop-i.invariant.within, c.requires.1)
-
-pub shape_of-entries-then-line-eq0 : goal.shape_of-entries-then-line-eq0
-shape_of-entries-then-line-eq0 c = c.loop-i.invariant.long
 
 pub returns-then-line-eq0 : goal.returns-then-line-eq0
 returns-then-line-eq0 c =
     entered_broken _ _ _ _ _ _ _ _ _ c.loop-i.invariant (omega arith) _ _ _ c.entry_line_at-line.ensures c.if-line-eq0.true
-
-pub shape_of-entries-then-bound-line : goal.shape_of-entries-then-bound-line
-shape_of-entries-then-bound-line c = c.loop-i.invariant.long
 
 pub returns-then-bound-line : goal.returns-then-bound-line
 returns-then-bound-line c =
     let given : c.args.refusal ≡ 0 → ⊥ = λ z. omega arith in
     so_refused _ _ _ given
     (entered_bound _ _ _ _ _ _ _ _ _ c.loop-i.invariant (omega arith) _ _ _ c.entry_line_at-line.ensures c.if-line-eq0.false given c.if-bound-line.true)
-
-pub shape_of-entries-then-line-i : goal.shape_of-entries-then-line-i
-shape_of-entries-then-line-i c = c.loop-i.invariant.long
 
 pub returns-then-line-i : goal.returns-then-line-i
 returns-then-line-i c =
@@ -43,9 +28,3 @@ pub loop-i-preserved : goal.loop-i-preserved
 loop-i-preserved c =
     entered_more _ _ _ _ _ _ _ _ _ c.loop-i.invariant (omega arith) _ _ _ c.entry_line_at-line.ensures c.if-line-eq0.false
     c.if-bound-line.false c.if-line-i.false
-
-pub shape_of-entries : goal.shape_of-entries
-shape_of-entries c = c.loop-i.invariant.long
-
-pub returns : goal.returns
-returns c = entered_all _ _ _ _ _ _ _ _ _ c.loop-i.invariant (omega arith)

@@ -14,11 +14,5 @@ front n h = front_of_room n most_route_numbers h
 front_length : (n : ℕ) → n ≤ most_route_numbers → length (take n (room_of most_route_numbers)) ≡ n
 front_length n h = ap length (front n h) ∙ length-replicate n untouched
 
-pub slice_bounds-reports_in-end : goal.slice_bounds-reports_in-end
-slice_bounds-reports_in-end c = sym (front_length c.args.n c.requires)
-
 pub reports_in-requires : goal.reports_in-requires
 reports_in-requires c = front c.args.n c.requires ∙ ap room_of (sym (front_length c.args.n c.requires))
-
-pub returns : goal.returns
-returns c = rw (front_length c.args.n c.requires) at c.reports_in.ensures
