@@ -6,18 +6,17 @@ use mathlib.Core.Path.{◌≡◌, refl}
 use mathlib.Core.Bool.{true, false}
 use lib.Seq.{set-get_or}
 use Rattle.rules.specs.Setups.{may_read, may_write}
-use Rattle.rules.specs.Stores.{Content, holder_of, content_of, mark_of, put_holder, put_content, put_mark}
+use Rattle.rules.specs.Stores.{Content, put_holder, put_content, put_mark}
 use Rattle.rules.specs.Calls.{goes_through, effect, says, answer_to, next_store}
-use Rattle.rules.specs.Parts.{process_of, file_of, changeable}
+use Rattle.rules.specs.Parts.{process_of, changeable}
 use Rattle.rules.specs.declared.Setup.{Setup}
 use Rattle.rules.specs.declared.Store.{Store}
 use Rattle.rules.specs.declared.Call.{Call}
 use Rattle.rules.specs.declared.Call.TheVariants.{Read, Write, Lock, Unlock, Open, Close, Testlock, Copy}
 use Rattle.rules.specs.declared.Called.{Called}
 use Rattle.rules.proofs.Lists.{by_test}
-use Rattle.calling.specs.Looking.{looks_on}
+use Rattle.calling.specs.Looking.{meeting_of, with_meeting, looks_at}
 use Rattle.calling.specs.Turns.{with_holder, with_content, with_mark, goes, changes, tells, turn_of, quiet}
-use Rattle.calling.specs.declared.Meeting.{Meeting}
 use Rattle.calling.specs.declared.Looks.{Looks}
 use Rattle.calling.specs.declared.Turn.{Turn}
 
@@ -30,19 +29,7 @@ pub turn_stays : (c : Call) (k : Looks) → goes c k ≡ false → turn_of c k �
 unfolding turn_of
 turn_stays c k e = simp e
 
--- what process p meets of file f, and what a call looks at in a store
-abbrev pub meeting_of : Store → ℕ → ℕ → Meeting
-meeting_of m p f = record { holder = holder_of m f; content = content_of m f; mark = mark_of m f p }
-
-abbrev looks_at : Setup → Store → Call → Looks
-looks_at s m c =
-    looks_on s.rights s.desk s.class c (meeting_of m (process_of c) (file_of c)) (meeting_of m (process_of c) (changeable c))
-
--- the store with what process p is to meet of file f in its place
-abbrev pub with_meeting : Store → ℕ → ℕ → Meeting → Store
-with_meeting m p f meeting = put_mark (put_content (put_holder m f meeting.holder) f meeting.content) f p meeting.mark
-
--- where one thing of it is another, that one is put
+-- where one thing of what a process meets is another, that one is put
 module _ (m : Store) (p f : ℕ) where
   own_put : with_meeting m p f (meeting_of m p f) ≡ m
   own_put = simp set-get_or
@@ -79,8 +66,7 @@ module _ (s : Setup) (m : Store) where
       let (asked, told, put) = columns c in
       by_test (goes_through s m c) (λ goes. rw (asked, goes, told, put)) (λ stays. rw (asked, stays) (simp set-get_or))
 
-  -- and so does a turn on what was looked up by the numbers that the call names, put back by them
-  pub turned : (c : Call) {p f x : ℕ} {from onto : Meeting} {k : Looks} {t : Turn} → p ≡ process_of c → f ≡ file_of c → x ≡ changeable c →
-      from ≡ meeting_of m p f → onto ≡ meeting_of m p x → k ≡ looks_on s.rights s.desk s.class c from onto → t ≡ turn_of c k →
+  -- and so does a turn on what was looked up, put back by the numbers that the call names
+  pub turned : (c : Call) {p x : ℕ} {k : Looks} {t : Turn} → p ≡ process_of c → x ≡ changeable c → k ≡ looks_at s m c → t ≡ turn_of c k →
       ◌≡◌ {A = Called} (record { answer = t.answer; store = with_meeting m p x t.meeting }) (record { answer = answer_to s m c; store = next_store s m c })
-  turned c by on at met target looked stepped = rw (stepped, looked, met, target, by, on, at) (turn_is c)
+  turned c by at looked stepped = rw (stepped, looked, by, at) (turn_is c)

@@ -1,48 +1,33 @@
 // The entry: one call on a setup and a store that are judged first.
-ghost use Rattle.std.specs.Prelude.{◌≡◌, ◌<◌};
+ghost use Rattle.std.specs.Prelude.{◌≡◌, ◌<◌, true};
 ghost use Rattle.rules.specs.Sizes.{most_processes, most_files};
+ghost use Rattle.rules.specs.Setups.{accepted};
 ghost use Rattle.rules.specs.Stores.{is_open};
 ghost use Rattle.rules.specs.Calls.{answer_to, next_store};
 ghost use Rattle.rules.specs.Parts.{process_of, file_of, changeable};
 ghost use Rattle.rules.specs.Answers.{numbers_of};
-ghost use Rattle.calling.specs.Looking.{right_in, looks_on};
-ghost use Rattle.rules.specs.Entries.{called};
+ghost use Rattle.calling.specs.Looking.{looks_at};
+ghost use Rattle.rules.specs.Entries.{called, ran};
 
 use crate::decoding::decode;
 use crate::stepping::step;
 use crate::{Looks, Meeting};
 use judging::fitting::judge;
 use judging::rights::{has_r, has_w, right_of};
-use rules::{Answer, Call, Called, Cell, Decoded, Numbers, PROCESSES, Setup, Store};
+use rules::{Answer, Call, Called, Numbers, Setup, Store};
 
+#[tactic(auto, using(rules::proofs::Codes::numbers_process))]
 pub fn process_of(call: Call) -> u32
     ensures { result ≡ process_of call }
 {
-    match call {
-        Call::Read(p, _) => p,
-        Call::Write(p, _, _) => p,
-        Call::Lock(p, _) => p,
-        Call::Unlock(p, _) => p,
-        Call::Open(p, _) => p,
-        Call::Close(p, _) => p,
-        Call::Testlock(p, _) => p,
-        Call::Copy(p, _, _) => p,
-    }
+    Numbers::from(call).process
 }
 
+#[tactic(auto, using(rules::proofs::Codes::numbers_file))]
 pub fn file_of(call: Call) -> u32
     ensures { result ≡ file_of call }
 {
-    match call {
-        Call::Read(_, f) => f,
-        Call::Write(_, f, _) => f,
-        Call::Lock(_, f) => f,
-        Call::Unlock(_, f) => f,
-        Call::Open(_, f) => f,
-        Call::Close(_, f) => f,
-        Call::Testlock(_, f) => f,
-        Call::Copy(_, f, _) => f,
-    }
+    Numbers::from(call).file
 }
 
 // The one file that a call can change.
@@ -50,14 +35,8 @@ pub fn changeable(call: Call) -> u32
     ensures { result ≡ changeable call }
 {
     match call {
-        Call::Read(_, f) => f,
-        Call::Write(_, f, _) => f,
-        Call::Lock(_, f) => f,
-        Call::Unlock(_, f) => f,
-        Call::Open(_, f) => f,
-        Call::Close(_, f) => f,
-        Call::Testlock(_, f) => f,
         Call::Copy(_, _, x) => x,
+        _ => file_of(call),
     }
 }
 
@@ -67,109 +46,68 @@ fn is_open(mark: u8) -> bool
     mark == 1
 }
 
-pub fn meeting_of(holder: u32, content: Cell, mark: u8) -> Meeting
-    ensures { result ≡ record { holder = holder; content = content; mark = mark } }
-{
-    Meeting {
-        holder,
-        content,
-        mark,
-    }
-}
-
-// The right on the file that a call can change; it is looked up anew only where that is another file.
-fn right_on<'a>(
-    rights: &'a [u8],
-    desk: &'a [u8],
-    class: &'a [u8],
-    p: usize,
-    f: usize,
-    x: usize,
-    own: u8,
-) -> u8
-    requires { own ≡ right_in rights.now desk.now class.now p f }
-    ensures { result ≡ right_in rights.now desk.now class.now p x }
-{
-    if x == f {
-        return own;
-    }
-    right_of(rights, desk, class, p, x)
-}
-
-// What a call looks at; the tables are lent, so that none is copied for a call.
-pub fn look_on<'a>(
-    rights: &'a [u8],
-    desk: &'a [u8],
-    class: &'a [u8],
-    call: Call,
-    source: Meeting,
-    target: Meeting,
-) -> Looks
-    ensures { result ≡ looks_on rights.now desk.now class.now call source target }
+// The setup and the store are lent, so that neither is copied for a call.
+// That the call's numbers are in range is asked by clauses, here and below: a Call is any call, and so the laws of rules and views have it.
+fn look_at(setup: &Setup, store: &Store, call: Call) -> Looks
+    requires { (process_of call < most_processes) × (file_of call < most_files) × (changeable call < most_files) }
+    ensures { result ≡ looks_at setup.now store.now call }
 {
     let p = process_of(call) as usize;
     let f = file_of(call) as usize;
     let x = changeable(call) as usize;
-    let own = right_of(rights, desk, class, p, f);
-    let r = has_r(own);
-    let w = has_w(right_on(rights, desk, class, p, f, x, own));
-    let opened = is_open(source.mark);
-    let holder = source.holder;
-    let content = source.content;
+    let source = Meeting::of(store, p, f);
+    let target = Meeting::of(store, p, x);
+    let own = right_of(setup, p, f);
+    // It is looked up anew only where the file that the call can change is another.
+    let other = if x == f { own } else { right_of(setup, p, x) };
     Looks {
-        r,
-        w,
-        opened,
-        holder,
-        content,
+        r: has_r(own),
+        w: has_w(other),
+        opened: is_open(source.mark),
+        holder: source.holder,
+        content: source.content,
         target,
     }
 }
 
-// A call that exists, on a setup and a store that were judged. It changes one local, in one place. What looks, steps and puts
-// back stands in lists::running::run_all too: one function for both was slower (docs/DECISIONS.md).
-fn run_one(setup: Setup, store: Store, call: Call) -> Called
+// A call that exists, on a setup and a store that were judged: its answer, and the next store in the place of the store.
+#[inline]
+#[tactic(auto, using(crate::proofs::Turns::turned))]
+fn make(setup: &Setup, store: &mut Store, call: Call) -> Answer
     requires { (process_of call < most_processes) × (file_of call < most_files) × (changeable call < most_files) }
-    ensures { result ≡ record { answer = answer_to setup store call; store = next_store setup store call } }
+    ensures answer { result ≡ answer_to setup.now store.old call }
+    ensures next { store.new ≡ next_store setup.now store.old call }
 {
-    let mut next = store;
-    let p = process_of(call) as usize;
-    let f = file_of(call) as usize;
-    let x = changeable(call) as usize;
-    let at_f = f * PROCESSES + p;
-    let at_x = x * PROCESSES + p;
-    let from = meeting_of(next.holders[f], next.cells[f], next.marks[at_f]);
-    let onto = meeting_of(next.holders[x], next.cells[x], next.marks[at_x]);
-    let look = look_on(&setup.rights, &setup.desk, &setup.class, call, from, onto);
+    let look = look_at(setup, store, call);
     let turn = step(call, look);
-    let answer = turn.answer;
     let meeting = turn.meeting;
-    let content = meeting.content;
-    next.holders[x] = meeting.holder;
-    next.cells[x] = content;
-    next.marks[at_x] = meeting.mark;
-    Called {
-        answer,
-        store: next,
+    meeting.put(store, process_of(call) as usize, changeable(call) as usize);
+    turn.answer
+}
+
+// A call's numbers, on a setup and a store that were judged; a refused call leaves the store as it is.
+#[inline]
+#[tactic(auto, using(crate::proofs::Ranges::process_lt, crate::proofs::Ranges::file_lt, crate::proofs::Ranges::changed_lt, rules::proofs::Decodes::ran_is, crate::proofs::Ran::ran_refused))]
+pub fn run_one(setup: &Setup, store: &mut Store, n: Numbers) -> Answer
+    requires { accepted setup.now ≡ true }
+    ensures answer { result ≡ (ran setup.now store.old n).answer }
+    ensures next { store.new ≡ (ran setup.now store.old n).store }
+{
+    match decode(setup, n) {
+        Ok(call) => make(setup, store, call),
+        Err(refusal) => refusal.into(),
     }
 }
 
 // Entry: one call. The setup and the store are judged first; a refused call hands the store back as it was.
-pub fn call(setup: Setup, store: Store, n: Numbers) -> Called
+#[tactic(auto, using(crate::proofs::Ran::accepted_by, crate::proofs::Ran::called_ran, crate::proofs::Ran::called_refused_by))]
+pub fn call(setup: Setup, mut store: Store, n: Numbers) -> Called
     ensures value { result ≡ called setup store n }
     ensures numbers { numbers_of result.answer ≡ numbers_of (called setup store n).answer }
 {
-    let refusal = judge(setup, store);
-    if refusal != 0 {
-        let answer = Answer::Refused(refusal);
-        return Called { answer, store };
-    }
-    let decoded = decode(setup, n);
-    match decoded {
-        Decoded::Not(number) => {
-            let answer = Answer::Refused(number);
-            Called { answer, store }
-        }
-        Decoded::Is(call) => run_one(setup, store, call),
-    }
+    let answer = match judge(&setup, &store) {
+        Ok(()) => run_one(&setup, &mut store, n),
+        Err(refusal) => refusal.into(),
+    };
+    Called { answer, store }
 }

@@ -3,11 +3,13 @@
 
 pub mod decoding;
 pub mod entry;
+mod meetings;
 pub mod stepping;
 
 use rules::{Answer, Cell};
 
-// What a process meets of one file: its holder, its content, and the process's own open mark.
+// What a process meets of one file: its holder, its content, and the process's own open mark, as the numbers that the store has: a call
+// that changes nothing puts the same back, whatever they are (`next_store`), so a mark is no bool here, and a holder no Option.
 #[derive(Clone, Copy)]
 pub struct Meeting {
     pub holder: u32,

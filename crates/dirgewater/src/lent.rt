@@ -1,11 +1,11 @@
 // The store lent in place: one call on the store that lies in the host's memory.
 ghost use Rattle.std.specs.Prelude.{◌≡◌};
 ghost use Rattle.rules.specs.Calls.{numbers};
-ghost use Rattle.rules.specs.Answers.{kind_of, value_of};
+ghost use Rattle.rules.specs.Answers.{numbers_of, pair_of};
 ghost use Rattle.rules.specs.Entries.{called};
 
-use crate::{Numbered, call_numbered};
-use rules::{Setup, Store};
+use crate::call_numbered;
+use rules::{Numbered, Setup, Store};
 
 // Entry: one call in place. The store is copied out, the call made by value, and the next store put where the old one lay.
 #[unsafe(no_mangle)]
@@ -18,7 +18,7 @@ pub extern "C" fn dw_call_in_place(
     x: u32,
 ) -> Numbered
     ensures { let c = called setup store.old (numbers op p f x) in
-        (result.kind ≡ kind_of c.answer) × (result.value ≡ value_of c.answer) × (store.new ≡ c.store) }
+        (pair_of result ≡ numbers_of c.answer) × (store.new ≡ c.store) }
 {
     let outcome = call_numbered(setup, *store, op, p, f, x);
     *store = outcome.store;

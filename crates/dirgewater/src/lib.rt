@@ -7,21 +7,13 @@ pub mod texts;
 
 ghost use Rattle.std.specs.Prelude.{◌≡◌};
 ghost use Rattle.rules.specs.Calls.{numbers};
-ghost use Rattle.rules.specs.Answers.{kind_of, value_of};
+ghost use Rattle.rules.specs.Answers.{numbers_of, pair_of, done_numbers_of};
+ghost use Rattle.rules.specs.Refusals.{numbered};
 ghost use Rattle.rules.specs.Entries.{called};
 
 use calling::entry::call;
-use rules::{
-    Answer, KIND_FIGURE, KIND_NO, KIND_NOTHING, KIND_REFUSED, KIND_YES, Numbers, Setup, Store,
-};
-
-// The two numbers of an answer.
-#[repr(C)]
-#[derive(Clone, Copy)]
-pub struct Numbered {
-    pub kind: u32,
-    pub value: u32,
-}
+use lists::Listed;
+use rules::{Called, Numbered, Numbers, Setup, Store};
 
 // What a call answers, as two numbers, and the next store.
 #[repr(C)]
@@ -31,43 +23,32 @@ pub struct Outcome {
     pub store: Store,
 }
 
-pub fn as_numbers(kind: u32, value: u32) -> Numbered
-    ensures { (result.kind ≡ kind) × (result.value ≡ value) }
-{
-    Numbered { kind, value }
-}
+impl From<Called> for Outcome {
+    ghost from_gives = { λ called outcome. (pair_of outcome.numbered ≡ numbers_of called.answer) × (outcome.store ≡ called.store) };
 
-pub fn numbers_of(answer: Answer) -> Numbered
-    ensures { (result.kind ≡ kind_of answer) × (result.value ≡ value_of answer) }
-{
-    match answer {
-        Answer::Nothing => as_numbers(KIND_NOTHING, 0),
-        Answer::Figure(figure) => as_numbers(KIND_FIGURE, figure),
-        Answer::Yes => as_numbers(KIND_YES, 0),
-        Answer::No => as_numbers(KIND_NO, 0),
-        Answer::Refused(refusal) => as_numbers(KIND_REFUSED, refusal),
+    fn from(called: Called) -> Outcome {
+        Outcome {
+            numbered: called.answer.into(),
+            store: called.store,
+        }
     }
 }
 
-// One call by value, answered as two numbers.
-fn outcome_of(setup: Setup, store: Store, n: Numbers) -> Outcome
-    ensures { let c = called setup store n in
-        (result.numbered.kind ≡ kind_of c.answer) × (result.numbered.value ≡ value_of c.answer) × (result.store ≡ c.store) }
-{
-    let called = call(setup, store, n);
-    let answer = called.answer;
-    let next = called.store;
-    let numbered = numbers_of(answer);
-    Outcome {
-        numbered,
-        store: next,
+impl From<Listed> for Outcome {
+    ghost from_gives = { λ listed outcome. (pair_of outcome.numbered ≡ done_numbers_of (numbered listed.answer)) × (outcome.store ≡ listed.store) };
+
+    fn from(listed: Listed) -> Outcome {
+        Outcome {
+            numbered: listed.answer.into(),
+            store: listed.store,
+        }
     }
 }
 
-// The same from plain numbers, as they cross from C: a call in place has only to put the store back.
+// One call by value, from plain numbers, as they cross from C: a call in place has only to put the store back.
 pub fn call_numbered(setup: Setup, store: Store, op: u32, p: u32, f: u32, x: u32) -> Outcome
     ensures { let c = called setup store (numbers op p f x) in
-        (result.numbered.kind ≡ kind_of c.answer) × (result.numbered.value ≡ value_of c.answer) × (result.store ≡ c.store) }
+        (pair_of result.numbered ≡ numbers_of c.answer) × (result.store ≡ c.store) }
 {
     let n = Numbers {
         operation: op,
@@ -75,5 +56,5 @@ pub fn call_numbered(setup: Setup, store: Store, op: u32, p: u32, f: u32, x: u32
         file: f,
         extra: x,
     };
-    outcome_of(setup, store, n)
+    Outcome::from(call(setup, store, n))
 }

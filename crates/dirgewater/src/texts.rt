@@ -1,13 +1,12 @@
 // The readers of texts, for C.
 ghost use Rattle.std.specs.Prelude.{◌≡◌, length};
-ghost use Rattle.lines.specs.Entries.{read_alone, read_with_calls, room_read, text_numbers_of};
+ghost use Rattle.lines.specs.Entries.{faulted, read_alone, read_with_calls, room_read, text_numbers_of, setup_beside};
 
-use crate::Numbered;
-use lines::{GivenText, Reading};
-use rules::{KIND_DONE, KIND_REFUSED, Setup};
+use lines::{Fault, GivenText};
+use rules::{Numbered, Setup};
 use text::reading::{read_alone, read_with_calls};
 
-// What became of a text, as numbers, and the setup that was read.
+// What became of a text, as numbers, and the setup that was read; the blank one beside a refusal.
 #[repr(C)]
 #[derive(Clone, Copy)]
 pub struct TextRead {
@@ -16,34 +15,18 @@ pub struct TextRead {
     pub setup: Setup,
 }
 
-fn text_numbers_of(given: GivenText) -> TextRead
-    ensures { let n = text_numbers_of given.reading in
-        (result.numbered.kind ≡ n.0) × (result.numbered.value ≡ n.1) × (result.offset ≡ n.2) × (result.setup ≡ given.setup) }
-{
-    let setup = given.setup;
-    let reading = given.reading;
-    match reading {
-        Reading::Read(value) => {
-            let numbered = Numbered {
-                kind: KIND_DONE,
-                value,
-            };
-            TextRead {
-                numbered,
-                offset: 0,
-                setup,
-            }
-        }
-        Reading::Refused(value, offset) => {
-            let numbered = Numbered {
-                kind: KIND_REFUSED,
-                value,
-            };
-            TextRead {
-                numbered,
-                offset,
-                setup,
-            }
+impl From<Result<GivenText, Fault>> for TextRead {
+    ghost from_gives = { λ text read. ((read.numbered.kind, read.numbered.value, read.offset) ≡ text_numbers_of (faulted text)) × (read.setup ≡ setup_beside (faulted text)) };
+
+    fn from(text: Result<GivenText, Fault>) -> TextRead {
+        let (read, offset, setup) = match text {
+            Ok(given) => (Ok(given.calls), 0, given.setup),
+            Err(fault) => (Err(fault.refusal), fault.at, Setup::blank()),
+        };
+        TextRead {
+            numbered: read.into(),
+            offset,
+            setup,
         }
     }
 }
@@ -51,18 +34,18 @@ fn text_numbers_of(given: GivenText) -> TextRead
 // Entry: a setup text read alone.
 #[unsafe(no_mangle)]
 pub extern "C" fn dw_read_alone(text: &[u8]) -> TextRead
-    ensures { let g = read_alone text.now in let n = text_numbers_of g.reading in
-        (result.numbered.kind ≡ n.0) × (result.numbered.value ≡ n.1) × (result.offset ≡ n.2) × (result.setup ≡ g.setup) }
+    ensures { let t = read_alone text.now in
+        ((result.numbered.kind, result.numbered.value, result.offset) ≡ text_numbers_of t) × (result.setup ≡ setup_beside t) }
 {
-    text_numbers_of(read_alone(text))
+    read_alone(text).into()
 }
 
 // Entry: a setup text and the call text that follows it, its calls into a lent run.
 #[unsafe(no_mangle)]
 pub extern "C" fn dw_read_with_calls(text: &[u8], room: &mut [u32]) -> TextRead
-    ensures fact { let g = read_with_calls text.now (length room.old) in let n = text_numbers_of g.reading in
-        (result.numbered.kind ≡ n.0) × (result.numbered.value ≡ n.1) × (result.offset ≡ n.2) × (result.setup ≡ g.setup) }
+    ensures fact { let t = read_with_calls text.now (length room.old) in
+        ((result.numbered.kind, result.numbered.value, result.offset) ≡ text_numbers_of t) × (result.setup ≡ setup_beside t) }
     ensures room { room.new ≡ room_read text.now room.old }
 {
-    text_numbers_of(read_with_calls(text, room))
+    read_with_calls(text, room).into()
 }

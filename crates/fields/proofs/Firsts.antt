@@ -1,6 +1,6 @@
 -- Laws of the first field and the first line of bytes: where each ends, what stands before its stop, and what follows it.
 -- Assumes nothing.
-use Prim.Native.Nat.{ℕ, zero, suc, ◌+◌, ◌≤◌, ◌<◌}
+use Prim.Native.Nat.{ℕ, ◌+◌, ◌≤◌, ◌<◌}
 use mathlib.Core.Path.{◌≡◌, refl, ap, sym, ◌∙◌}
 use mathlib.Core.Bool.{Bool, true, false, not, cond, and-eq-true_iff, false≢true}
 use mathlib.Core.Logic.{◌⊎◌, inl, inr}
@@ -11,6 +11,7 @@ use native.Mathlib.Nat.{add_assoc}
 use native.Mathlib.Omega.{arith}
 use borrow.Author.Tests.{eqb-true, eq-eqb, not-true}
 use lib.Dec.{eqb}
+use Rattle.std.proofs.lemmas.Option.{some_pair_parts}
 use lib.ListN.{length, drop, length-append, length-drop}
 use lib.Seq.{drop-drop, drop-append-add}
 use Rattle.rules.proofs.Lists.{by_test, neither}
@@ -18,8 +19,9 @@ use Rattle.lines.specs.Bytes.{line_feed, tab}
 use Rattle.lines.specs.Lines.{fields_of}
 use Rattle.lines.specs.Shapes.{Part}
 use Rattle.lines.proofs.Lines.{holds_no}
-use Rattle.lines.proofs.Shapes.{none_some}
-use Rattle.fields.specs.Cursor.{found_at, told, is_stop, first_field, after_field, starts_with, part_of, part_at, first_line, is_whole, line_at}
+use Rattle.std.specs.declared.option.Option.TheVariants.{None, Some}
+use Rattle.fields.specs.Stops.{is_stop}
+use Rattle.fields.specs.Cursor.{found_at, first_field, after_field, part_of, part_at, first_line, is_whole, line_at}
 
 -- the first stop of bytes: none, a tab, or an LF
 pub data FirstStop (rest : List ℕ) : Type 0 where
@@ -102,56 +104,31 @@ whole_line (b ∷ rest) h =
     by_test (eqb b line_feed) (λ t. rw t (let e = eqb-true b line_feed t in cc))
     (λ f. let e = whole_line rest (rw f at h) in rw f (simp towards_suc (simp towards_suc at (ap (λ (l : List ℕ). b ∷ l) e))))
 
--- how code tells what it found: by a cursor that is not 0 that there is something
-pub told_some {ℓ} : {A : Type ℓ} (r : ℕ) (x : A) → (r ≡ 0 → ⊥) → told r x ≡ some (r, x)
-told_some zero x h = absurd (h refl)
-told_some (suc r) x h = refl
-
-pub told_none {ℓ} : {A : Type ℓ} (r : ℕ) (x : A) → r ≡ 0 → told r x ≡ none
-told_none r x h = rw h
-
 -- what is found under a test was there, with the cursor and what was read
-pub found_under {ℓ} : {A : Type ℓ} (test : Bool) (k : ℕ) (o : Option A) {next : ℕ} {x : A} → cond test (found_at k o) none ≡ some (next, x)
+found_under : {A : Type 0} (test : Bool) (k : ℕ) (o : Option A) {next : ℕ} {x : A} → cond test (found_at k o) None ≡ Some (next, x)
     → (test ≡ true) × (next ≡ k) × (o ≡ some x)
-found_under false k o e = absurd (none_some e)
-found_under true k none e = absurd (none_some e)
-found_under {A} true k (some y) {next} {x} e =
-    let both : ◌≡◌ {A = ℕ × A} (k, y) (next, x) = cc in
-    (refl, sym (ap (λ (p : ℕ × A). p.0) both), ap (λ (p : ℕ × A). some p.1) both)
+found_under false k o e = cc
+found_under true k none e = cc
+found_under true k (some y) {next} {x} e =
+    let (k_is, y_is) = some_pair_parts k next y x e in
+    (refl, sym k_is, ap (λ z. some z) y_is)
 
 -- and where nothing is found the test failed, or what was read is nothing
-pub none_under {ℓ} : {A : Type ℓ} (test : Bool) (k : ℕ) (o : Option A) → cond test (found_at k o) none ≡ none
+none_under : {A : Type 0} (test : Bool) (k : ℕ) (o : Option A) → cond test (found_at k o) None ≡ None
     → ((test ≡ true) × (o ≡ none)) ⊎ (test ≡ false)
 none_under false k o e = inr refl
 none_under true k none e = inl (refl, refl)
-none_under true k (some y) e = absurd (none_some (sym e))
-
--- bytes that start with a stop are some
-starts_some : (stop : ℕ) (bytes : List ℕ) → starts_with stop bytes ≡ true → 0 < length bytes
-starts_some stop [] t = absurd (false≢true t)
-starts_some stop (b ∷ bytes) t = omega arith
-
--- a field that a stop ends lies within the text, and so does its stop
-pub part_within : (part : Part) (stop : ℕ) (text : List ℕ) (at : ℕ) {next n : ℕ} → part_at part stop text at ≡ some (next, n)
-    → (at < next) × (next ≤ length text)
-unfolding part_at
-part_within part stop text at {next} {n} e =
-    let rest = drop at text in
-    let (t, k, o) = found_under (starts_with stop (after_field rest)) (at + length (first_field rest) + 1) (part_of part (first_field rest)) e in
-    let some_left : 0 < length (after_field rest) = starts_some stop (after_field rest) t in
-    let l = simp length-append at (ap length (field_whole rest)) in
-    let m = length-drop at text in
-    (omega arith, omega arith)
+none_under true k (some y) e = cc
 
 -- a line that is found is the bytes from the cursor as far as the next LF, and the cursor after it is past that LF
-pub record LineFound {ℓ} {A : Type ℓ} (read : List (List ℕ) → Option A) (text : List ℕ) (at next : ℕ) (x : A) : Type ℓ where
+pub record LineFound {A : Type 0} (read : List (List ℕ) → Option A) (text : List ℕ) (at next : ℕ) (x : A) : Type 0 where
   pub here : drop at text ≡ first_line (drop at text) ++ (line_feed ∷ drop next text)
   pub plain : holds_no line_feed (first_line (drop at text)) ≡ true
   pub past : next ≡ at + length (first_line (drop at text)) + 1
   pub reads : read (fields_of (first_line (drop at text))) ≡ some x
 
-pub line_found {ℓ} : {A : Type ℓ} (read : List (List ℕ) → Option A) (text : List ℕ) (at : ℕ) {next : ℕ} {x : A}
-    → line_at read text at ≡ some (next, x) → LineFound read text at next x
+pub line_found : {A : Type 0} (read : List (List ℕ) → Option A) (text : List ℕ) (at : ℕ) {next : ℕ} {x : A}
+    → line_at read text at ≡ Some (next, x) → LineFound read text at next x
 unfolding line_at
 line_found read text at {next} {x} e =
     let rest = drop at text in
@@ -162,7 +139,7 @@ line_found read text at {next} {x} e =
     record { here = whole ∙ ap (λ (more : List ℕ). bytes ++ (line_feed ∷ more)) after; plain = line-without rest; past = k; reads = o }
 
 -- where none is found there is a whole line that is not read so, or no whole line
-pub line_none {ℓ} : {A : Type ℓ} (read : List (List ℕ) → Option A) (text : List ℕ) (at : ℕ) → line_at read text at ≡ none
+pub line_none : {A : Type 0} (read : List (List ℕ) → Option A) (text : List ℕ) (at : ℕ) → line_at read text at ≡ None
     → ((is_whole (drop at text) ≡ true) × (read (fields_of (first_line (drop at text))) ≡ none)) ⊎ (is_whole (drop at text) ≡ false)
 unfolding line_at
 line_none read text at e =
@@ -170,16 +147,11 @@ line_none read text at e =
     none_under (is_whole (drop at text)) (at + length bytes + 1) (read (fields_of bytes)) e
 
 -- a line that is found lies within the text, and so does its LF
-pub line-within {ℓ} : {A : Type ℓ} (read : List (List ℕ) → Option A) (text : List ℕ) (at : ℕ) {next : ℕ} {x : A}
-    → line_at read text at ≡ some (next, x) → (at < next) × (next ≤ length text)
+pub line-within : {A : Type 0} (read : List (List ℕ) → Option A) (text : List ℕ) (at : ℕ) {next : ℕ} {x : A}
+    → line_at read text at ≡ Some (next, x) → (at < next) × (next ≤ length text)
 line-within read text at {next} {x} e =
     let found = line_found read text at e in
     let l = simp length-append at (ap length found.here) in
     let m = length-drop at text in
     let p = found.past in
     (omega arith, omega arith)
-
--- the same of what code tells of a field
-pub part_told : (part : Part) (stop : ℕ) (text : List ℕ) (at r n : ℕ) → told r n ≡ part_at part stop text at → (r ≡ 0 → ⊥)
-    → (at < r) × (r ≤ length text)
-part_told part stop text at r n e h = part_within part stop text at (sym e ∙ told_some r n h)

@@ -1,17 +1,27 @@
 -- Laws of the bytes that a cursor has gone over: which part stands at the cursor, or that none does.
 -- Assumes nothing.
-use Prim.Native.Nat.{ℕ, zero, suc, ◌+◌, ◌-◌, ◌*◌, ◌<◌, ◌≤◌}
+use Prim.Native.Nat.{ℕ, suc, ◌+◌, ◌-◌, ◌*◌, ◌<◌, ◌≤◌}
 use mathlib.Core.Path.{◌≡◌, refl, ap, sym, ◌∙◌}
 use mathlib.Core.Bool.{Bool, true, false, not, ◌&&◌, cond, and-eq-true_iff, true≢false, false≢true}
-use mathlib.Core.Logic.{◌↔◌}
-use mathlib.Core.List.{List, [], ◌∷◌, ◌++◌, append_assoc}
+use mathlib.Core.List.{List, [], ◌∷◌, ◌++◌, append_cancel_left}
 use mathlib.Core.Option.{Option, some, none}
 use native.Mathlib.Omega.{arith}
 use native.Mathlib.Numerals.{add-one}
-use borrow.Author.Tests.{eqb-true, eqb-false, ne_eqb, leb-true, le-leb, not-true}
-use lib.Dec.{eqb, leb}
-use lib.ListN.{length, get_or, take, drop, length-append, length-drop, drop_of_length-le, get_or-append, get_or-eq_default}
-use lib.Seq.{take_all, take-suc, drop-cons, get_or-append_seam, get_or-drop}
+use borrow.Author.Tests.{eqb-true, eqb-false, leb-true, le-leb, not-true}
+use denote.Ref.{Bor}
+use lib.Dec.{eqb, leb, leb-suc-suc}
+use Rattle.std.specs.List as list
+use Rattle.std.specs.List.{slice_range}
+use Rattle.std.specs.Cmp.Lexicographic.{pointwise}
+use Rattle.std.proofs.lemmas.Bool.Decides.{Decides-eqb}
+use Rattle.std.proofs.lemmas.Slice.Eq.{strip_prefix_is}
+use Rattle.std.specs.Bool.{then_some}
+use Rattle.std.specs.Char.{is_ascii_digit}
+use Rattle.std.proofs.lemmas.Slice.{between_to_end}
+use lib.ListN.{length, get_or, take, drop, drop_of_length-le, length-append, length-take, take-append-drop}
+use lib.Seq.{take-suc, drop-cons}
+use Rattle.std.specs.Option.{option_map, option_or}
+use Rattle.std.specs.declared.option.Option.TheVariants.{None, Some}
 use Rattle.rules.specs.Sizes.{most_number}
 use Rattle.rules.proofs.Lists.{by_test}
 use Rattle.lines.specs.Bytes.{line_feed, tab, digit0, same}
@@ -19,12 +29,17 @@ use Rattle.lines.specs.Decimals.{ten, is_digit, are_digits, starts_well, value_a
 use Rattle.lines.specs.Shapes.{Named, named, Part, the_word, a_number, one_of}
 use Rattle.lines.proofs.Decimals.{value_after_more, are_digits_more}
 use Rattle.lines.proofs.Shapes.{none_some, same_iff}
-use Rattle.fields.specs.Cursor.{Found, found_at, told, is_stop, no_stop, first_field, after_field, starts_with, part_of, part_at}
-use Rattle.fields.proofs.Firsts.{field_whole, part_here, told_none, told_some}
+use Rattle.fields.specs.declared.words.Word.{Word}
+use Rattle.fields.specs.Stops.{is_stop, stop_byte, no_stop}
+use Rattle.fields.specs.Cursor.{found_at, making, names_of, first_field, after_field, starts_with, part_of, part_at}
+use Rattle.fields.specs.declared.stop.Stop.{Stop}
+use Rattle.fields.specs.declared.stop.Stop.TheVariants.{Tab, LineFeed}
+use Rattle.fields.proofs.Firsts.{field_whole, part_here}
 
--- what was found is told by any numbers that are those
-pub retold : {next : ℕ} {n : ℕ} {found : Found ℕ} (r v : ℕ) → (r ≡ next) × (v ≡ n) → told next n ≡ found → told r v ≡ found
-retold r v (e, q) h = rw (e, q) h
+-- a stop's byte ends a field
+stop_is : (stop : Stop) → is_stop (stop_byte stop) ≡ true
+stop_is Tab = refl
+stop_is LineFeed = refl
 
 -- a field that holds no stop goes as far as the first stop
 first_field_lem : (field ys : List ℕ) (m : ℕ) → no_stop field ≡ true → is_stop m ≡ true → first_field (field ++ (m ∷ ys)) ≡ field
@@ -45,18 +60,18 @@ starts_with_lem : (stop : ℕ) (bytes : List ℕ) → starts_with stop bytes ≡
 starts_with_lem stop [] h = absurd (false≢true h)
 starts_with_lem stop (b ∷ rest) h = (rest, ap (λ (c : ℕ). c ∷ rest) (eqb-true b stop h))
 
-found_none : (next : ℕ) (o : Option ℕ) → ((n : ℕ) → o ≡ some n → ⊥) → found_at next o ≡ none
+found_none : (next : ℕ) (o : Option ℕ) → ((n : ℕ) → o ≡ some n → ⊥) → found_at next o ≡ None
 found_none next none h = refl
 found_none next (some n) h = absurd (h n refl)
 
 module _ (part : Part) (stop : ℕ) (text : List ℕ) (at : ℕ) where
   -- the field before the stop is read as the part
-  pub part_there : (field ys : List ℕ) → is_stop stop ≡ true → no_stop field ≡ true → drop at text ≡ field ++ (stop ∷ ys)
+  part_there : (field ys : List ℕ) → is_stop stop ≡ true → no_stop field ≡ true → drop at text ≡ field ++ (stop ∷ ys)
       → part_at part stop text at ≡ found_at (at + length field + 1) (part_of part field)
   part_there field ys m n e = part_here part stop text at field ys (rw e (first_field_lem field ys stop n m)) (rw e (after_field_lem field ys stop n m))
 
   -- where no field before the stop is such a part there is none
-  pub part_none : ((field ys : List ℕ) (n : ℕ) → drop at text ≡ field ++ (stop ∷ ys) → part_of part field ≡ some n → ⊥) → part_at part stop text at ≡ none
+  part_none : ((field ys : List ℕ) (n : ℕ) → drop at text ≡ field ++ (stop ∷ ys) → part_of part field ≡ some n → ⊥) → part_at part stop text at ≡ None
   unfolding part_at
   part_none h =
       by_test (starts_with stop (after_field (drop at text)))
@@ -66,113 +81,86 @@ module _ (part : Part) (stop : ℕ) (text : List ℕ) (at : ℕ) where
       rw t (found_none _ (part_of part (first_field (drop at text))) (λ n q. h (first_field (drop at text)) ys n whole q)))
       (λ f. rw f)
 
--- bytes have gone by from a cursor to another
-pub record Scanned (text : List ℕ) (at i : ℕ) (front : List ℕ) : Type 0 where
-  pub goes : drop at text ≡ front ++ drop i text
-  pub long : at + length front ≡ i
+  -- nothing stands past the end
+  pub part_past : length text ≤ at → None ≡ part_at part stop text at
+  unfolding part_at after_field
+  part_past l = rw (drop_of_length-le text l)
 
--- the byte at a cursor, and the first of those that have gone by
-at_cursor : (text : List ℕ) (i : ℕ) → get_or (drop i text) 0 0 ≡ get_or text i 0
-at_cursor text i = get_or-drop i text 0 0 ∙ ap (λ (k : ℕ). get_or text k 0) (omega arith)
+-- the bytes from a cursor on, as a slice
+pub rest_is : (text : List ℕ) (at : ℕ) {rest : List ℕ} → rest ≡ slice_range text at (length text) → rest ≡ drop at text
+rest_is text at e = e ∙ between_to_end text at (length text) (omega arith)
 
-first_byte : (text : List ℕ) (at i : ℕ) (front : List ℕ) → Scanned text at i front → 0 < length front → get_or front 0 0 ≡ get_or text at 0
-first_byte text at i front s l =
-    sym (get_or-append front (drop i text) 0 0 l) ∙ ap (λ (t : List ℕ). get_or t 0 0) (sym s.goes) ∙ at_cursor text at
-
-pub scanned_none : (text : List ℕ) (at i : ℕ) → i ≡ at → Scanned text at i []
-scanned_none text at i e = record { goes = rw e; long = omega arith }
-
-module _ (text : List ℕ) (at i : ℕ) (front : List ℕ) (s : Scanned text at i front) (l : i < length text) where
-  -- the byte at the cursor is the next
-  pub scanned_next : drop at text ≡ front ++ (get_or text i 0 ∷ drop (i + 1) text)
-  scanned_next = s.goes ∙ rw (add-one, drop-cons text i 0)
-
-  pub scanned_more : Scanned text at (i + 1) (front ++ (get_or text i 0 ∷ []))
-  scanned_more = record { goes = scanned_next ∙ sym (append_assoc front _ _); long = rw length-append (omega (arith, s.long)) }
-
--- a word at the cursor
+-- a word at the cursor, where it has gone by: what follows it tells whether its stop does
 module _ (word : List ℕ) (stop : ℕ) (text : List ℕ) (at : ℕ) where
   word_part : (field : List ℕ) (n : ℕ) → part_of (the_word word) field ≡ some n → word ≡ field
   word_part field n e = by_test (same word field) (λ t. (same_iff word field).0 t) (λ f. absurd (none_some (rw f at e)))
 
-  word_none : ((ys : List ℕ) → drop at text ≡ word ++ (stop ∷ ys) → ⊥) → none ≡ part_at (the_word word) stop text at
+  word_none : ((ys : List ℕ) → drop at text ≡ word ++ (stop ∷ ys) → ⊥) → None ≡ part_at (the_word word) stop text at
   word_none h =
       sym (part_none (the_word word) stop text at (λ field ys n e q. h ys (e ∙ ap (λ (l : List ℕ). l ++ (stop ∷ ys)) (sym (word_part field n q)))))
 
-  -- it does not fit, differs at a byte, or has another byte after it
-  pub word_short : at ≤ length text → length text - at ≤ length word → none ≡ part_at (the_word word) stop text at
-  word_short b l = word_none (λ ys e. omega (arith, simp (length-append, length-drop) at (ap length e)))
+  -- it stands there, and after it its stop, or not
+  word_after : (after : List ℕ) → is_stop stop ≡ true → no_stop word ≡ true → drop at text ≡ word ++ after
+      → option_map (λ next. (next, 0)) (then_some (list.starts_with eqb after (stop ∷ [])) (at + length word + 1)) ≡ part_at (the_word word) stop text at
+  word_after [] m n e = word_none (λ ys q. omega (arith, simp length-append at (ap length (sym e ∙ q))))
+  word_after (b ∷ ys) m n e =
+      by_test (eqb stop b)
+      (λ t. rw t (sym (part_there (the_word word) stop text at word ys m n (rw (sym (eqb-true stop b t)) at e) ∙ rw ((same_iff word word).1 refl))))
+      (λ f.
+      rw f
+      (word_none (λ zs q. eqb-false stop b f (sym (ap (λ (l : List ℕ). get_or l 0 0) (append_cancel_left word (b ∷ ys) (stop ∷ zs) (sym e ∙ q)))))))
 
-  pub word_differs : (i : ℕ) → i < length word → (get_or text (at + i) 0 ≡ get_or word i 0 → ⊥) → none ≡ part_at (the_word word) stop text at
-  word_differs i l h =
-      word_none (λ ys e. h (sym (get_or-drop at text i 0) ∙ ap (λ (t : List ℕ). get_or t i 0) e ∙ get_or-append word (stop ∷ ys) 0 i l))
+-- the word stripped off what is left from a cursor on: it does not stand there, or what follows it tells of its stop
+pub word_differs : (word : List ℕ) (stop : ℕ) (text : List ℕ) (at : ℕ) (rest : List ℕ) → rest ≡ slice_range text at (length text)
+    → pointwise eqb (take (length word) rest) word ≡ false → None ≡ part_at (the_word word) stop text at
+word_differs word stop text at rest e d =
+    word_none word stop text at (λ ys q. strip_prefix_is Decides-eqb rest word None d (stop ∷ ys) (rest_is text at e ∙ q))
 
-  pub word_runs_on : (i : ℕ) → i ≡ length word → (get_or text (at + i) 0 ≡ stop → ⊥) → none ≡ part_at (the_word word) stop text at
-  word_runs_on i l h =
-      word_none
-      (λ ys e. h (sym (get_or-drop at text i 0) ∙ cc (ap (λ (t : List ℕ). get_or t i 0) e, get_or-append_seam word stop ys 0)))
+pub word_stripped : (word : List ℕ) (stop : Stop) (text : List ℕ) (at : ℕ) (rest : List ℕ) (after : Bor (List ℕ)) → rest ≡ slice_range text at (length text)
+    → (pointwise eqb (take (length word) rest) word ≡ true) × (after.now ≡ drop (length word) rest) × (length after.now + length word ≡ length rest)
+    → no_stop word ≡ true
+    → option_map (λ next. (next, 0)) (then_some (list.starts_with eqb after.now (stop_byte stop ∷ [])) (at + length word + 1))
+    ≡ part_at (the_word word) (stop_byte stop) text at
+word_stripped word stop text at rest after e h n =
+    word_after word (stop_byte stop) text at after.now (stop_is stop) n (sym (rest_is text at e) ∙ strip_prefix_is Decides-eqb rest word (Some after) h)
 
-  -- it has gone by, and the stop is next
-  pub word_there : (i : ℕ) → is_stop stop ≡ true → no_stop word ≡ true → length word ≤ i → Scanned text at (at + i) (take i word) → at + i < length text
-      → get_or text (at + i) 0 ≡ stop → told (at + i + 1) 0 ≡ part_at (the_word word) stop text at
-  word_there i m n l s b e =
-      let full : take i word ≡ word = take_all i word l in
-      let all : Scanned text at (at + i) word = rw full at s in
-      let there = part_there (the_word word) stop text at word (drop (at + i + 1) text) m n (rw e at (scanned_next text at (at + i) word all b)) in
-      let far : at + length word ≡ at + i = all.long in
-      told_some (at + i + 1) 0 (λ z. omega arith) ∙ sym (there ∙ rw ((same_iff word word).1 refl, far))
+-- one of several words: the first of them, or else one of the others
+named-more_under : (a b : Bool) (end n : ℕ) (others : Option ℕ)
+    → cond a (found_at end (cond b (some n) others)) None
+    ≡ option_or (making (λ (_ : ℕ). n) (cond a (found_at {A = ℕ} end (cond b (some 0) none)) None)) (cond a (found_at end others) None)
+named-more_under true true end n others = refl
+named-more_under true false end n others = refl
+named-more_under false b end n others = refl
 
--- one byte more of the word has gone by
-pub word_more : (word text : List ℕ) (at i : ℕ) → i < length word → at + i < length text → Scanned text at (at + i) (take i word)
-    → get_or text (at + i) 0 ≡ get_or word i 0 → Scanned text at (at + (i + 1)) (take (i + 1) word)
-word_more word text at i l b s e =
-    let more = rw e at (scanned_more text at (at + i) (take i word) s b) in
-    let far : at + i + 1 ≡ at + (i + 1) = omega arith in
-    rw (← far, add-one i, take-suc word i 0) more
-
--- what was found, read as another number
-renamed : ℕ → Found ℕ → Found ℕ
-renamed n none = none
-renamed n (some f) = some (f.0, n)
-
--- one of several words, by whether the first of them was found
-named_if : (a b : Bool) (end n next : ℕ) (others : Option ℕ) → told {A = ℕ} next 0 ≡ cond a (found_at end (cond b (some 0) none)) none → (next ≡ 0 → ⊥)
-    → told next n ≡ cond a (found_at end (cond b (some n) others)) none
-unfolding renamed
-named_if a b end n zero others e p = absurd (p refl)
-named_if true true end n (suc next) others e p = ap (renamed n) e
-named_if true false end n (suc next) others e p = absurd (none_some (sym e))
-named_if false b end n (suc next) others e p = absurd (none_some (sym e))
-
-named_else : (a b : Bool) (end n : ℕ) (others : Option ℕ) → none ≡ cond a (found_at {A = ℕ} end (cond b (some 0) none)) none
-    → cond a (found_at end others) none ≡ cond a (found_at end (cond b (some n) others)) none
-named_else true true end n others e = absurd (none_some e)
-named_else true false end n others e = refl
-named_else false b end n others e = refl
-
-module _ (word : List ℕ) (n : ℕ) (more : List Named) (stop : ℕ) (text : List ℕ) (at next : ℕ) (h : told next 0 ≡ part_at (the_word word) stop text at) where
-  pub named_here : (next ≡ 0 → ⊥) → told next n ≡ part_at (one_of ((word, n) ∷ more)) stop text at
+module _ (stop : ℕ) (text : List ℕ) (at : ℕ) where
+  named-more : (word : List ℕ) (n : ℕ) (more : List Named)
+      → part_at (one_of ((word, n) ∷ more)) stop text at
+      ≡ option_or (making (λ (_ : ℕ). n) (part_at (the_word word) stop text at)) (part_at (one_of more) stop text at)
   unfolding part_at
-  named_here p =
+  named-more word n more =
       let rest = drop at text in
-      named_if (starts_with stop (after_field rest)) (same word (first_field rest)) (at + length (first_field rest) + 1) n next (named more (first_field rest)) h p
+      named-more_under (starts_with stop (after_field rest)) (same word (first_field rest)) (at + length (first_field rest) + 1) n (named more (first_field rest))
 
-  pub named_later : next ≡ 0 → part_at (one_of more) stop text at ≡ part_at (one_of ((word, n) ∷ more)) stop text at
-  unfolding part_at
-  named_later z =
-      let rest = drop at text in
-      named_else (starts_with stop (after_field rest)) (same word (first_field rest)) (at + length (first_field rest) + 1) n (named more (first_field rest))
-      (sym (told_none next 0 z) ∙ h)
+  module _ (words : List (Word × ℕ)) (i : ℕ) where
+    -- the words that are left: the next of them stands there, or does not, or there is none
+    module _ (other : Word × ℕ) (l : i < length words) where
+      abbrev word : Word × ℕ
+      word = get_or words i other
 
--- and the last of them
-pub named_last : (word : List ℕ) (n stop : ℕ) (text : List ℕ) (at next : ℕ) → told next 0 ≡ part_at (the_word word) stop text at
-    → told next n ≡ part_at (one_of ((word, n) ∷ [])) stop text at
-named_last word n stop text at next h =
-    by_test (eqb next 0)
-    (λ t.
-    let z = eqb-true next 0 t in
-    told_none next n z ∙ sym (part_none (one_of []) stop text at (λ field ys k e q. none_some q)) ∙ named_later word n [] stop text at next h z)
-    (λ f. named_here word n [] stop text at next h (eqb-false next 0 f))
+      named_next : part_at (one_of (names_of (drop i words))) stop text at
+          ≡ option_or (making (λ (_ : ℕ). word.1) (part_at (the_word word.0.bytes.now) stop text at)) (part_at (one_of (names_of (drop (i + 1) words))) stop text at)
+      named_next = rw (add-one, drop-cons words i other) (named-more word.0.bytes.now word.1 (names_of (drop (suc i) words)))
+
+      pub named_here : (next : ℕ) → Some (next, 0) ≡ part_at (the_word word.0.bytes.now) stop text at
+          → Some (next, word.1) ≡ part_at (one_of (names_of (drop i words))) stop text at
+      named_here next e = sym (named_next ∙ rw (← e))
+
+      pub named_later : None ≡ part_at (the_word word.0.bytes.now) stop text at
+          → part_at (one_of (names_of (drop (i + 1) words))) stop text at ≡ part_at (one_of (names_of (drop i words))) stop text at
+      named_later e = sym (named_next ∙ rw (← e))
+
+    pub named_none : length words ≤ i → None ≡ part_at (one_of (names_of (drop i words))) stop text at
+    named_none l = rw (drop_of_length-le words l) (sym (part_none (one_of []) stop text at (λ field ys k e q. none_some q)))
 
 -- a stop is no digit
 stop_no_digit : (m : ℕ) → is_stop m ≡ true → is_digit m ≡ false
@@ -215,18 +203,8 @@ value_front v (x ∷ xs) (y ∷ ys) us zs a e n q =
     let rest : xs ++ (a ∷ us) ≡ ys ++ zs = cc in
     rw head (value_front (v * ten + (y - digit0)) xs ys us zs a ((and-eq-true_iff (is_digit y) (are_digits ys)).0 e).1 n rest)
 
--- a field starts well where it is not empty, and is one byte where that is the digit 0
-starts_iff : (xs : List ℕ) → (starts_well xs ≡ true) ↔ ((0 < length xs) × (get_or xs 0 0 ≡ digit0 → length xs ≤ 1))
-starts_iff [] = (λ e. absurd (false≢true e), λ h. absurd (omega arith))
-starts_iff (x ∷ []) = (λ e. (omega arith, λ z. omega arith), λ h. refl)
-starts_iff (x ∷ (y ∷ xs)) = (
-  λ e. (omega arith, λ z. absurd (eqb-false x digit0 (not-true (eqb x digit0) e) z)),
-  λ h. ap not (ne_eqb x digit0 (λ z. omega (arith, h.1 z))),
-)
-
 -- a field that is a number
 record IsNumber (field : List ℕ) : Type 0 where
-  starts : starts_well field ≡ true
   digits : are_digits field ≡ true
   small : field_value field ≤ most_number
 
@@ -237,92 +215,81 @@ number_sound field n e =
     (λ t.
     let (wd, small) = (and-eq-true_iff (starts_well field && are_digits field) (leb (field_value field) most_number)).0 t in
     let (w, d) = (and-eq-true_iff (starts_well field) (are_digits field)).0 wd in
-    record { starts = w; digits = d; small = leb-true (field_value field) most_number small })
+    record { digits = d; small = leb-true (field_value field) most_number small })
     (λ f. absurd (none_some (rw f at e)))
 
--- no digit stands past the end
-pub no_digit_past : (text : List ℕ) (i : ℕ) → length text ≤ i → is_digit (get_or text i 0) ≡ false
-no_digit_past text i l = rw (get_or-eq_default text 0 l)
+-- a byte is a digit as the library tests it
+is_digit_ascii : (b : ℕ) → is_digit b ≡ is_ascii_digit b
+is_digit_ascii b = ap (λ low. leb digit0 b && low) (leb-suc-suc b 57)
 
 -- the digits that have gone by, and their value
-pub record Counted (text : List ℕ) (at i value : ℕ) : Type 0 where
-  pub front : List ℕ
-  pub scanned : Scanned text at i front
-  pub digits : are_digits front ≡ true
-  pub worth : field_value front ≡ value
+pub record Counted (rest : List ℕ) (i value : ℕ) : Type 0 where
+  pub digits : are_digits (take i rest) ≡ true
+  pub worth : field_value (take i rest) ≡ value
 
-pub counted_none : (text : List ℕ) (at : ℕ) → Counted text at at 0
-counted_none text at = record { front = []; scanned = scanned_none text at at refl; digits = refl; worth = refl }
+module _ (rest : List ℕ) (i value : ℕ) (c : Counted rest i value) (l : i < length rest) (d : true ≡ is_ascii_digit (get_or rest i 0)) where
+  one_more : Counted rest (i + 1) (value * ten + (get_or rest i 0 - digit0))
+  one_more =
+      let digit : is_digit (get_or rest i 0) ≡ true = is_digit_ascii (get_or rest i 0) ∙ sym d in
+      record {
+        digits = rw (add-one, take-suc rest i 0) (are_digits_more (take i rest) (get_or rest i 0) c.digits digit);
+        worth = rw (add-one, take-suc rest i 0) (value_after_more 0 (take i rest) (get_or rest i 0) ∙ ap (λ v. v * ten + (get_or rest i 0 - digit0)) c.worth);
+      }
 
-pub counted_more : (text : List ℕ) (at i value : ℕ) → Counted text at i value → i < length text → is_digit (get_or text i 0) ≡ true
-    → Counted text at (i + 1) (value * ten + (get_or text i 0 - digit0))
-counted_more text at i value c l d = record {
-  front = c.front ++ (get_or text i 0 ∷ []);
-  scanned = scanned_more text at i c.front c.scanned l;
-  digits = are_digits_more c.front (get_or text i 0) c.digits d;
-  worth = value_after_more 0 c.front (get_or text i 0) ∙ ap (λ (v : ℕ). v * ten + (get_or text i 0 - digit0)) c.worth;
-}
+  pub counted_more : (next : ℕ) → next ≡ value * ten + (get_or rest i 0 - digit0) → Counted rest (i + 1) next
+  counted_more next e = rw e one_more
 
-module _ (stop : ℕ) (text : List ℕ) (at i value : ℕ) (m : is_stop stop ≡ true) (c : Counted text at i value) where
-  number_none : ((field ys : List ℕ) → drop at text ≡ field ++ (stop ∷ ys) → IsNumber field → ⊥) → none ≡ part_at a_number stop text at
-  number_none h = sym (part_none a_number stop text at (λ field ys n e q. h field ys e (number_sound field n q)))
+module _ (stop : Stop) (text : List ℕ) (at : ℕ) {rest : List ℕ} (here : rest ≡ drop at text) (i value : ℕ) (c : Counted rest i value) where
+  abbrev byte : ℕ
+  byte = stop_byte stop
+
+  parted : take i rest ++ drop i rest ≡ drop at text
+  parted = take-append-drop i rest ∙ here
+
+  number_none : ((field ys : List ℕ) → field ++ (byte ∷ ys) ≡ take i rest ++ drop i rest → IsNumber field → ⊥) → None ≡ part_at a_number byte text at
+  number_none h = sym (part_none a_number byte text at (λ field ys n e q. h field ys (sym e ∙ sym parted) (number_sound field n q)))
 
   -- a value that is too large stays so
-  pub counted_large : most_number < value → none ≡ part_at a_number stop text at
-  counted_large l =
+  large : most_number < value → None ≡ part_at a_number byte text at
+  large l =
+      number_none
+      (λ field ys e s. omega (arith, s.small, c.worth, value_front 0 field (take i rest) ys (drop i rest) byte c.digits (stop_no_digit byte (stop_is stop)) e))
+
+  -- no stop after the digits
+  pub counted_all : length rest ≤ i → None ≡ part_at a_number byte text at
+  counted_all l =
       number_none
       (λ field ys e s.
-      let front = value_front 0 field c.front ys (drop i text) stop c.digits (stop_no_digit stop m) (sym e ∙ c.scanned.goes) in
-      omega (arith, s.small, c.worth))
+      let (same, next) = same_digits field (take i rest) ys (drop i rest) byte s.digits c.digits (stop_no_digit byte (stop_is stop)) (rw (drop_of_length-le rest l)) e in
+      let z : ◌≡◌ {A = ℕ} 0 1 = cc (drop_of_length-le rest l) in
+      omega arith)
 
-  -- where no digit is next the field is what has gone by
-  module _ (no_digit : is_digit (get_or text i 0) ≡ false) where
-    ended : (field ys : List ℕ) → drop at text ≡ field ++ (stop ∷ ys) → IsNumber field → (field ≡ c.front) × (drop i text ≡ stop ∷ ys)
-    ended field ys e s =
-        same_digits field c.front ys (drop i text) stop s.digits c.digits (stop_no_digit stop m) (ap is_digit (at_cursor text i) ∙ no_digit)
-        (sym e ∙ c.scanned.goes)
+  -- a byte after them that is none: they are a number where it is the stop and they start well
+  module _ (l : i < length rest) (d : false ≡ is_ascii_digit (get_or rest i 0)) (small : value ≤ most_number) where
+    next_byte : drop i rest ≡ get_or rest i 0 ∷ drop (i + 1) rest
+    next_byte = rw (add-one, drop-cons rest i 0)
 
-    -- no digit at all; the end of the text; another byte than the stop; a leading zero
-    pub counted_no_digit : i ≡ at → none ≡ part_at a_number stop text at
-    counted_no_digit z =
+    pub counted_stop : get_or rest i 0 ≡ byte → then_some (starts_well (take i rest)) (at + i + 1, value) ≡ part_at a_number byte text at
+    unfolding number_of is_number
+    counted_stop e =
+        let whole : drop at text ≡ take i rest ++ (byte ∷ drop (i + 1) rest) =
+        sym parted ∙ ap (λ l. take i rest ++ l) (next_byte ∙ ap (λ b. b ∷ drop (i + 1) rest) e) in
+        let there = part_there a_number byte text at (take i rest) (drop (i + 1) rest) (stop_is stop) (digits_no_stop (take i rest) c.digits) whole in
+        let long : length (take i rest) ≡ i = length-take i rest ∙ omega arith in
+        sym (there
+        ∙ by_test (starts_well (take i rest)) (λ t. rw (t, c.digits, c.worth, le-leb value most_number small, long)) (λ f. rw f))
+
+    pub counted_other : (get_or rest i 0 ≡ byte → ⊥) → None ≡ part_at a_number byte text at
+    counted_other h =
+        let no_digit : is_digit (get_or rest i 0) ≡ false = is_digit_ascii (get_or rest i 0) ∙ sym d in
         number_none
         (λ field ys e s.
-        let (same, next) = ended field ys e s in
-        omega (arith, ((starts_iff field).0 s.starts).0, ap length same, c.scanned.long))
+        let (same, next) = same_digits field (take i rest) ys (drop i rest) byte s.digits c.digits (stop_no_digit byte (stop_is stop)) (rw next_byte no_digit) e in
+        h (ap (λ (l : List ℕ). get_or l 0 0) (sym next_byte ∙ next)))
 
-    pub counted_at_end : length text ≤ i → none ≡ part_at a_number stop text at
-    counted_at_end l =
-        number_none
-        (λ field ys e s.
-        let (same, next) = ended field ys e s in
-        let z : ◌≡◌ {A = ℕ} 0 1 = cc (drop_of_length-le text l) in
-        omega arith)
-
-    pub counted_runs_on : (get_or text i 0 ≡ stop → ⊥) → none ≡ part_at a_number stop text at
-    counted_runs_on h =
-        number_none
-        (λ field ys e s.
-        let (same, next) = ended field ys e s in
-        h (sym (at_cursor text i) ∙ ap (λ (l : List ℕ). get_or l 0 0) next))
-
-    pub counted_zero : get_or text at 0 ≡ digit0 → at + 1 < i → none ≡ part_at a_number stop text at
-    counted_zero z l =
-        number_none
-        (λ field ys e s.
-        let (same, next) = ended field ys e s in
-        let long = c.scanned.long in
-        let first = first_byte text at i c.front c.scanned (omega arith) in
-        omega (arith, ap length same, ((starts_iff field).0 s.starts).1 (ap (λ (l : List ℕ). get_or l 0 0) same ∙ first ∙ z)))
-
-  -- the stop is next, and all is well
-  pub counted_there : at < i → i < length text → get_or text i 0 ≡ stop → value ≤ most_number → (get_or text at 0 ≡ digit0 → i ≤ at + 1)
-      → told (i + 1) value ≡ part_at a_number stop text at
-  unfolding number_of is_number
-  counted_there p l e b z =
-      let front = c.front in
-      let long = c.scanned.long in
-      let first = first_byte text at i front c.scanned (omega arith) in
-      let starts : starts_well front ≡ true = (starts_iff front).1 (omega arith, λ q. omega (arith, z (sym first ∙ q))) in
-      let next = rw e at (scanned_next text at i front c.scanned l) in
-      let there = part_there a_number stop text at front (drop (i + 1) text) m (digits_no_stop front c.digits) next in
-      told_some (i + 1) value (λ z. omega arith) ∙ sym (there ∙ rw (starts, c.digits, c.worth, le-leb value most_number b, long))
+-- one digit too many
+pub counted_large : (stop : Stop) (text : List ℕ) (at : ℕ) {rest : List ℕ} → rest ≡ slice_range text at (length text) → (i value : ℕ)
+    → Counted rest i value → i < length rest → true ≡ is_ascii_digit (get_or rest i 0) → most_number < value * ten + (get_or rest i 0 - digit0)
+    → None ≡ part_at a_number (stop_byte stop) text at
+counted_large stop text at {rest} e i value c l d k =
+    large stop text at (rest_is text at e) (i + 1) (value * ten + (get_or rest i 0 - digit0)) (one_more rest i value c l d) k

@@ -1,32 +1,31 @@
 -- The bytes of a text from a cursor on: their first field as a part of a shape, and their first line by its shape.
-use Rattle.std.specs.Prelude.{ℕ, zero, suc, ◌+◌, Bool, true, false, not, ◌&&◌, ◌||◌, cond, List, [], ◌∷◌, eqb, length, drop}
+use Rattle.std.specs.Prelude.{ℕ, ◌+◌, Bool, false, ◌||◌, cond, List, [], ◌∷◌, map, eqb, length, drop}
+use Rattle.std.specs.declared.option.Option as code
+use Rattle.std.specs.declared.option.Option.TheVariants.{None, Some}
+use Rattle.std.specs.Option.{option_map}
 use Rattle.std.proofs.Math.Option.{Option, some, none}
-use Rattle.lines.specs.Bytes.{line_feed, tab, same}
+use Rattle.lines.specs.Bytes.{line_feed, same}
 use Rattle.lines.specs.Lines.{fields_of}
 use Rattle.lines.specs.Decimals.{number_of}
-use Rattle.lines.specs.Shapes.{named, Part, the_word, a_number, one_of}
+use Rattle.lines.specs.Shapes.{Named, named, Part, the_word, a_number, one_of}
+use Rattle.fields.specs.Stops.{is_stop}
+use Rattle.fields.specs.declared.words.Word.{Word}
 
--- what code finds: the cursor after it, which is never 0, and what was read; or nothing
-abbrev pub Found {ℓ} : Type ℓ → Type ℓ
-Found A = Option (ℕ × A)
+-- what code finds: the cursor after it and what was read, or nothing
+abbrev pub Found : Type 0 → Type 0
+Found A = code.Option (ℕ × A)
 
-abbrev pub found_at {ℓ} : {A : Type ℓ} → ℕ → Option A → Found A
-found_at next none = none
-found_at next (some x) = some (next, x)
+abbrev pub found_at : {A : Type 0} → ℕ → Option A → Found A
+found_at next none = None
+found_at next (some x) = Some (next, x)
 
--- and how it tells it: by a cursor of 0 that there is nothing
-abbrev pub told {ℓ} : {A : Type ℓ} → ℕ → A → Found A
-told zero x = none
-told (suc next) x = some (suc next, x)
+-- and what is made of it
+abbrev pub making : {A B : Type 0} → (A → B) → Found A → Found B
+making f found = option_map (λ (next, x). (next, f x)) found
 
--- a stop ends a field: a tab or an LF
-abbrev pub is_stop : ℕ → Bool
-is_stop b = eqb b tab || eqb b line_feed
-
--- so a word that is to be found holds none
-abbrev pub no_stop : List ℕ → Bool
-no_stop [] = true
-no_stop (b ∷ rest) = not (is_stop b) && no_stop rest
+-- words and their numbers, as code lends them
+abbrev pub names_of : List (Word × ℕ) → List Named
+names_of words = map (λ w. (w.0.bytes.now, w.1)) words
 
 -- the first field of bytes; and from the stop that ends it on
 unfoldable pub first_field : List ℕ → List ℕ
@@ -52,7 +51,7 @@ unfoldable pub part_at : Part → ℕ → List ℕ → ℕ → Found ℕ
 part_at part stop text at =
     let rest = drop at text in
     let field = first_field rest in
-    cond (starts_with stop (after_field rest)) (found_at (at + length field + 1) (part_of part field)) none
+    cond (starts_with stop (after_field rest)) (found_at (at + length field + 1) (part_of part field)) None
 
 -- the first line of bytes without its LF; and whether its LF is there
 unfoldable pub first_line : List ℕ → List ℕ
@@ -64,8 +63,8 @@ is_whole [] = false
 is_whole (b ∷ rest) = eqb b line_feed || is_whole rest
 
 -- the first line from a cursor on, where it is whole, as what its fields are read as
-unfoldable pub line_at {ℓ} : {A : Type ℓ} → (List (List ℕ) → Option A) → List ℕ → ℕ → Found A
+unfoldable pub line_at : {A : Type 0} → (List (List ℕ) → Option A) → List ℕ → ℕ → Found A
 line_at read text at =
     let rest = drop at text in
     let bytes = first_line rest in
-    cond (is_whole rest) (found_at (at + length bytes + 1) (read (fields_of bytes))) none
+    cond (is_whole rest) (found_at (at + length bytes + 1) (read (fields_of bytes))) None

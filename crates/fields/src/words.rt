@@ -1,42 +1,50 @@
-// The bytes and the words of the line rules.
-pub const TAB: u8 = 9;
+// The words of the line rules, and the words that stand for numbers.
+ghost use Rattle.std.specs.Prelude.{◌≡◌, true};
+ghost use Rattle.fields.specs.Stops.{no_stop};
 
-pub const LINE_FEED: u8 = 10;
+use rules::{BOTH, Operation, R, W};
 
-pub const DIGIT_0: u8 = 48;
+// A word that may stand as a field: it holds no stop.
+#[derive(Clone, Copy)]
+pub struct Word<'a> {
+    pub bytes: &'a [u8],
+    pub ghost no_stop: { no_stop bytes.now ≡ true },
+}
 
-pub const DIGIT_9: u8 = 57;
+pub const ONE: Word<'static> = Word { bytes: b"1" };
 
-pub const ONE: [u8; 1] = [b'1'];
+pub const WORD_STORE: Word<'static> = Word { bytes: b"store" };
 
-pub const WORD_STORE: [u8; 5] = [b's', b't', b'o', b'r', b'e'];
+pub const WORD_ACCESS: Word<'static> = Word { bytes: b"access" };
 
-pub const WORD_ACCESS: [u8; 6] = [b'a', b'c', b'c', b'e', b's', b's'];
+pub const WORD_PROCESS: Word<'static> = Word { bytes: b"process" };
 
-pub const WORD_PROCESS: [u8; 7] = [b'p', b'r', b'o', b'c', b'e', b's', b's'];
+pub const WORD_FILE: Word<'static> = Word { bytes: b"file" };
 
-pub const WORD_FILE: [u8; 4] = [b'f', b'i', b'l', b'e'];
+pub const WORD_CALLS: Word<'static> = Word { bytes: b"calls" };
 
-pub const WORD_CALLS: [u8; 5] = [b'c', b'a', b'l', b'l', b's'];
+// A word and the number that it stands for: a number, as `one_of` and `call_line` of the line rules read it.
+pub type Named = (Word<'static>, u32);
 
-pub const WORD_R: [u8; 1] = [b'R'];
+// The rights of an access line.
+pub const RIGHT_WORDS: [Named; 3] = [
+    (Word { bytes: b"R" }, R as u32),
+    (Word { bytes: b"W" }, W as u32),
+    (Word { bytes: b"RW" }, BOTH as u32),
+];
 
-pub const WORD_W: [u8; 1] = [b'W'];
+// The calls that take no extra number.
+pub const PLAIN_WORDS: [Named; 6] = [
+    (Word { bytes: b"read" }, Operation::Read as u32),
+    (Word { bytes: b"lock" }, Operation::Lock as u32),
+    (Word { bytes: b"unlock" }, Operation::Unlock as u32),
+    (Word { bytes: b"open" }, Operation::Open as u32),
+    (Word { bytes: b"close" }, Operation::Close as u32),
+    (Word { bytes: b"testlock" }, Operation::Testlock as u32),
+];
 
-pub const WORD_RW: [u8; 2] = [b'R', b'W'];
-
-pub const WORD_READ: [u8; 4] = [b'r', b'e', b'a', b'd'];
-
-pub const WORD_WRITE: [u8; 5] = [b'w', b'r', b'i', b't', b'e'];
-
-pub const WORD_LOCK: [u8; 4] = [b'l', b'o', b'c', b'k'];
-
-pub const WORD_UNLOCK: [u8; 6] = [b'u', b'n', b'l', b'o', b'c', b'k'];
-
-pub const WORD_OPEN: [u8; 4] = [b'o', b'p', b'e', b'n'];
-
-pub const WORD_CLOSE: [u8; 5] = [b'c', b'l', b'o', b's', b'e'];
-
-pub const WORD_TESTLOCK: [u8; 8] = [b't', b'e', b's', b't', b'l', b'o', b'c', b'k'];
-
-pub const WORD_COPY: [u8; 4] = [b'c', b'o', b'p', b'y'];
+// The calls that take one.
+pub const EXTRA_WORDS: [Named; 2] = [
+    (Word { bytes: b"write" }, Operation::Write as u32),
+    (Word { bytes: b"copy" }, Operation::Copy as u32),
+];

@@ -8,6 +8,7 @@ use mathlib.Core.Logic.{◌↔◌}
 use mathlib.Core.List.{List}
 use native.Mathlib.Omega.{arith}
 use lib.ListN.{length}
+use Rattle.std.specs.Prelude.{None, Ok}
 use Rattle.rules.specs.Sizes.{most_desks}
 use Rattle.rules.specs.Links.{linked}
 use Rattle.rules.specs.declared.Setup.{Setup}
@@ -18,11 +19,9 @@ use Rattle.chains.proofs.Avoids.{is_on}
 use Rattle.chains.proofs.EveryChain.{on_every_chain}
 use Rattle.chains.proofs.Enough.{report_takes}
 use Rattle.routes.specs.Reports.{routed}
-use Rattle.routes.specs.declared.RouteAnswer.TheVariants.{NoRoute}
 use Rattle.routes.proofs.Reports.{sound_unrefused}
 use Rattle.routes.proofs.Demands.{no_route_exactly}
 use Rattle.gates.specs.Gates.{gate_refusal, gated}
-use Rattle.gates.specs.declared.GateAnswer.TheVariants.{Guarded}
 use Rattle.gates.proofs.Whole.{Sound, gate_sound}
 use Rattle.gates.proofs.Told.{guarded_exactly, guarded_iff}
 
@@ -31,7 +30,7 @@ module _ (s : Setup) (a b c : ℕ) (room : List ℕ) (e : gate_refusal s a b c (
   sound = gate_sound s a b c (length room) e
 
   -- "guarded" is the answer exactly where every chain of links from a to b has c on it
-  pub on_every_way : (gated s a b c (length room) ≡ Guarded) ↔ ((xs : List ℕ) → is_chain (linked s) a b xs ≡ true → is_on c xs ≡ true)
+  pub on_every_way : (gated s a b c (length room) ≡ Ok None) ↔ ((xs : List ℕ) → is_chain (linked s) a b xs ≡ true → is_on c xs ≡ true)
   on_every_way =
       let answer = guarded_iff s a b c room e in
       let routes = guarded_exactly s a b c sound in
@@ -39,13 +38,13 @@ module _ (s : Setup) (a b c : ℕ) (room : List ℕ) (e : gate_refusal s a b c (
       (λ q. chains.0 (routes.0 (answer.0 q)), λ every. answer.1 (routes.1 (chains.1 every)))
 
   -- where the route report answers "no route", every other desk guards
-  pub no_route_guarded : routed s a b (length room) ≡ NoRoute → gated s a b c (length room) ≡ Guarded
+  pub no_route_guarded : routed s a b (length room) ≡ Ok None → gated s a b c (length room) ≡ Ok None
   no_route_guarded q =
       let unheard = (no_route_exactly s a b room (sound_unrefused sound.route)).0 q in
       (guarded_iff s a b c room e).1 (λ acts small silent. unheard acts small)
 
   -- where there is a route, and c guards, c is on the chain that the route report takes and writes its list along
-  pub on_shown_chain : HasRoute (linked s) a b → gated s a b c (length room) ≡ Guarded → is_on c (chain_of (linked s) a b) ≡ true
+  pub on_shown_chain : HasRoute (linked s) a b → gated s a b c (length room) ≡ Ok None → is_on c (chain_of (linked s) a b) ≡ true
   on_shown_chain r q =
       let h = sound.route in
       let is_desk : a < most_desks = omega (arith, h.from, (accepted_sizes s h.setup).of_desks.high) in

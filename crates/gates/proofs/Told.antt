@@ -1,13 +1,15 @@
 -- What the gate report answers and writes is what it promises of the three desks.
 -- Assumes nothing.
 use Prim.Native.Nat.{ℕ, ◌<◌, ◌≤◌}
-use mathlib.Core.Path.{◌≡◌, ◌∙◌}
+use mathlib.Core.Path.{◌≡◌, ap, ◌∙◌}
 use mathlib.Core.Logic.{◌↔◌}
 use mathlib.Core.List.{List, ◌++◌}
 use native.Mathlib.Omega.{arith}
 use lib.ListN.{length}
+use Rattle.std.specs.Prelude.{Option, Some, None, Result, Ok}
 use Rattle.rules.specs.Sizes.{most_desks}
 use Rattle.rules.specs.Calls.{in_quads}
+use Rattle.rules.specs.Answers.{told_numbers_of}
 use Rattle.rules.specs.declared.Setup.{Setup}
 use Rattle.rules.proofs.Setups.{accepted_sizes}
 use Rattle.rules.proofs.Told.{refused_or_not}
@@ -20,7 +22,6 @@ use Rattle.demand.proofs.Exactly.{none_of, exactly_around}
 use Rattle.routes.proofs.Reports.{told_none, told_shown, with_shown}
 use Rattle.routes.proofs.Fronts.{front_shows}
 use Rattle.gates.specs.Gates.{gate_refusal, links_around, gated, room_after, GoesAround, GateTells}
-use Rattle.gates.specs.declared.GateAnswer.TheVariants.{Guarded, Unguarded}
 use Rattle.gates.proofs.Whole.{Sound, gate_sound, gated_refused, room_refused, gated_is, room_is}
 
 module _ (s : Setup) (a b c : ℕ) {n : ℕ} (h : Sound s a b c n) where
@@ -52,11 +53,11 @@ module _ (s : Setup) (a b c : ℕ) {n : ℕ} (h : Sound s a b c n) where
 
 -- what is told of the way around c is the answer
 module _ (s : Setup) (a b c : ℕ) (room : List ℕ) (e : gate_refusal s a b c (length room) ≡ 0) where
-  gated_none : far ≤ fewest_links (links_around s c) a b → gated s a b c (length room) ≡ Guarded
-  gated_none none = gated_is s a b c room e ∙ told_none (links_around s c) a b Unguarded Guarded none
+  gated_none : far ≤ fewest_links (links_around s c) a b → gated s a b c (length room) ≡ Ok None
+  gated_none none = gated_is s a b c room e ∙ ap Ok (told_none (links_around s c) a b Some None none)
 
-  gated_shown : fewest_links (links_around s c) a b < far → gated s a b c (length room) ≡ Unguarded (calls_for (fewest_links (links_around s c) a b))
-  gated_shown near = gated_is s a b c room e ∙ told_shown (links_around s c) a b Unguarded Guarded near
+  gated_shown : fewest_links (links_around s c) a b < far → gated s a b c (length room) ≡ Ok (Some (calls_for (fewest_links (links_around s c) a b)))
+  gated_shown near = gated_is s a b c room e ∙ ap Ok (told_shown (links_around s c) a b Some None near)
 
 -- the report's answer, and the room as it leaves it, tell what they promise
 pub gate_tells : (s : Setup) (a b c : ℕ) (room : List ℕ) → GateTells s a b c (gated s a b c (length room)) (room_after s a b c room)
@@ -69,8 +70,18 @@ gate_tells s a b c room =
     (λ none. rw (gated_none s a b c room e none) ((guarded_told s a b c h).1 none)))
     (λ h. rw (gated_refused s a b c room h, room_refused s a b c room h))
 
+-- so an answer and a room that are the gate's keep all that it promises
+pub promised : (s : Setup) (a b c : ℕ) (was : List ℕ) {after : List ℕ} {r : Result (Option ℕ) ℕ} → r ≡ gated s a b c (length was) → after ≡ room_after s a b c was
+    → record {
+      value : r ≡ gated s a b c (length was);
+      room : after ≡ room_after s a b c was;
+      guarded : GateTells s a b c r after;
+      numbers : told_numbers_of r ≡ told_numbers_of (gated s a b c (length was));
+    }
+promised s a b c was e w = record { value = e; room = w; guarded = rw (e, w) (gate_tells s a b c was); numbers = ap told_numbers_of e }
+
 -- where no refusal is given, "guarded" is the answer exactly where no list of calls in which c makes none lets desk b hear desk a
-pub guarded_iff : (s : Setup) (a b c : ℕ) (room : List ℕ) → gate_refusal s a b c (length room) ≡ 0 → (gated s a b c (length room) ≡ Guarded) ↔ GuardedBy s a b c
+pub guarded_iff : (s : Setup) (a b c : ℕ) (room : List ℕ) → gate_refusal s a b c (length room) ≡ 0 → (gated s a b c (length room) ≡ Ok None) ↔ GuardedBy s a b c
 guarded_iff s a b c room e =
     let told = guarded_told s a b c (gate_sound s a b c (length room) e) in
     one_by_way (links_around s c) a b

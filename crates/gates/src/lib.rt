@@ -2,11 +2,3 @@
 #![tactic(auto)]
 
 pub mod gate;
-
-// Guarded, the number of calls that go around the gate desk, or the refusal.
-#[derive(Clone, Copy)]
-pub enum GateAnswer {
-    Guarded,
-    Unguarded(u32),
-    Refused(u32),
-}

@@ -10,9 +10,11 @@ use native.Mathlib.Omega.{arith}
 use borrow.Author.Tests.{eqb-true, eqb-false, lt-ltb, le-ltb}
 use lib.Dec.{eqb}
 use lib.ListN.{length, get_or, drop, get_or-append}
+use Rattle.std.specs.Prelude.{Some, None, Result, Ok}
 use Rattle.rules.specs.Sizes.{most_desks, table}
 use Rattle.rules.specs.Setups.{accepted}
 use Rattle.rules.specs.Links.{linked}
+use Rattle.rules.specs.Answers.{done_numbers_of}
 use Rattle.rules.specs.declared.Setup.{Setup}
 use Rattle.rules.proofs.Lists.{by_test}
 use Rattle.rules.proofs.Setups.{accepted_sizes}
@@ -25,9 +27,7 @@ use Rattle.chains.proofs.Acts.{linked_among_most}
 use Rattle.demand.specs.Routes.{calls_for}
 use Rattle.demand.specs.Heard.{Unheard}
 use Rattle.demand.proofs.Exactly.{exactly}
-use Rattle.routes.specs.Reports.{most_route_numbers, route_refusal, routed, route_numbers_of}
-use Rattle.routes.specs.declared.RouteAnswer.{RouteAnswer}
-use Rattle.routes.specs.declared.RouteAnswer.TheVariants.{NoRoute, Route}
+use Rattle.routes.specs.Reports.{most_route_numbers, route_refusal, routed}
 use Rattle.routes.proofs.Reports.{sound_unrefused, routed_none, routed_shown}
 use Rattle.routes.proofs.Demands.{no_route_exactly}
 use Rattle.grids.specs.Grids.{grid_length, grid_refusal, grid_number, grid_place, grid_over, gridded, room_after, NumberTells, GridTells}
@@ -105,25 +105,25 @@ module _ (s : Setup) (run : List ℕ) (unrefused : grid_refusal s (length run) �
       reported = sound_unrefused (record { setup = sound; from = from; onto = onto; apart = apart; spacious = spacious })
 
       -- 0 exactly where the report answers "no route"
-      pub no_route_iff : (entry_for s run a b ≡ 0) ↔ (routed s a b (length room) ≡ NoRoute)
+      pub no_route_iff : (entry_for s run a b ≡ 0) ↔ (routed s a b (length room) ≡ Ok None)
       no_route_iff =
           let report = no_route_exactly s a b room reported in (λ z. report.1 (unheard_iff.0 z), λ q. unheard_iff.1 (report.0 q))
 
       -- and k links exactly where the report answers a route of so many calls
-      pub route_iff : (k : ℕ) → 0 < k → (entry_for s run a b ≡ k) ↔ (routed s a b (length room) ≡ Route (calls_for k))
+      pub route_iff : (k : ℕ) → 0 < k → (entry_for s run a b ≡ k) ↔ (routed s a b (length room) ≡ Ok (Some (calls_for k)))
       route_iff k some =
           let fewest = fewest_links (linked s) a b in
           by_way (linked s) a b
           (λ near.
           let links = same ∙ near_number (linked s) a b near in
           let shown = routed_shown s a b room reported near in (
-            λ q. shown ∙ ap (λ (n : ℕ). Route (calls_for n)) (sym links ∙ q),
-            λ q. let calls : calls_for fewest ≡ calls_for k = ap (λ (r : RouteAnswer). (route_numbers_of r).1) (sym shown ∙ q) in omega (arith, links, calls),
+            λ q. shown ∙ ap (λ (n : ℕ). Ok (Some (calls_for n))) (sym links ∙ q),
+            λ q. let calls : calls_for fewest ≡ calls_for k = cc (shown, q) in omega (arith, links, calls),
           ))
           (λ past. (
             λ q. absurd (omega (arith, some, q, same, far_number (linked s) a b past)),
             λ q.
-                let kinds : ◌≡◌ {A = ℕ} 0 1 = ap (λ (r : RouteAnswer). (route_numbers_of r).0) (sym (routed_none s a b room reported past) ∙ q) in
+                let kinds : ◌≡◌ {A = ℕ} 0 1 = cc (routed_none s a b room reported past, q) in
                 absurd (omega arith),
           ))
 
@@ -146,3 +146,8 @@ grid_tells s room =
     let given : grid_refusal s (length room) ≢ 0 = λ z. omega (arith, h, z) in
     rw (gridded_refused s room given, room_refused s room given))
     (eq-or-lt_of_le (omega arith))
+
+-- so an answer and a room that are the grid's keep all that it promises
+pub promised : (s : Setup) (was : List ℕ) {after : List ℕ} {r : Result ℕ ℕ} → r ≡ gridded s (length was) → after ≡ room_after s was
+    → record { value : r ≡ gridded s (length was); room : after ≡ room_after s was; demand3 : GridTells s r after; numbers : done_numbers_of r ≡ done_numbers_of (gridded s (length was)) }
+promised s was e w = record { value = e; room = w; demand3 = rw (e, w) (grid_tells s was); numbers = ap done_numbers_of e }

@@ -74,18 +74,18 @@ module _ {desks : ℕ} {g : ℕ → ℕ → ℕ} {lent : List ℕ} where
   grown_none = record { before = omega arith; long = refl; numbers = λ a d l h. absurd (omega arith); past = λ i h. refl }
 
   pub grown_more : {room next : List ℕ} {b : ℕ} {f : ℕ → ℕ} → Grown desks g lent room b → desks * desks ≤ length lent → b < desks
-      → f ≡ (λ a. g a b) → next ≡ with_column desks b f desks room → Grown desks g lent next (b + 1)
+      → ((a : ℕ) → a < desks → f a ≡ g a b) → next ≡ with_column desks b f desks room → Grown desks g lent next (b + 1)
   grown_more {room} {next} {b} {f} h room_for l q e =
-      rw (e, q)
+      rw e
       (record {
         before = omega arith;
-        long = column_length desks b _ room desks ∙ h.long;
+        long = column_length desks b f room desks ∙ h.long;
         numbers = λ a d m k.
-            ⊎_elim (λ z. rw z (column_at desks b _ room l (omega (arith, h.long)) desks a (omega arith) m))
+            ⊎_elim (λ z. rw z (column_at desks b f room l (omega (arith, h.long)) desks a (omega arith) m ∙ q a m))
             (λ m'.
-            column_other desks b _ room desks (grid_place desks a d) (λ c n z. omega (arith, same_column desks c a b d l (omega arith) z))
+            column_other desks b f room desks (grid_place desks a d) (λ c n z. omega (arith, same_column desks c a b d l (omega arith) z))
             ∙ h.numbers a d m m') (eq-or-lt_of_le (omega arith));
-        past = λ i k. column_other desks b _ room desks i (λ c n z. omega (arith, place_lt desks c b l n)) ∙ h.past i k;
+        past = λ i k. column_other desks b f room desks i (λ c n z. omega (arith, place_lt desks c b l n)) ∙ h.past i k;
       })
 
   module _ {room : List ℕ} {b : ℕ} (h : Grown desks g lent room b) (room_for : desks * desks ≤ length lent) (l : desks ≤ b) where

@@ -7,7 +7,7 @@ ghost use Rattle.grids.specs.Columns.{column_of, with_column};
 
 use reaching::nearing::{FAR, LINKS, reach};
 
-// The number of links, and 0 for FAR, which is no route.
+// The number of links, and 0 for FAR, which is no route. No Option: the room that C lends holds 0 there, as `links_or_none` of specs/ says.
 fn links_or_none(count: u8) -> u32
     ensures { result ≡ links_or_none count }
 {
@@ -23,15 +23,14 @@ fn place_of(desks: usize, a: usize, b: usize) -> usize
     a * desks + b
 }
 
-// Column b: the number of every desk, each in its row.
-fn put_column(room: &mut [u32], to: &[u8], desks: usize, b: usize)
-    requires { (length to.now ≡ most_desks) × (desks ≤ most_desks) × (b < desks) × (desks * desks ≤ length room.old) }
-    ensures { room.new ≡ with_column desks b (column_of to.now) desks room.old }
+// Column b: the number of every desk, each in its row; there are as many desks as numbers of links.
+#[tactic(auto, unfolding(crate::specs::Columns::with_column))]
+fn put_column(room: &mut [u32], to: &[u8], b: usize)
+    requires { (length to.now ≤ most_desks) × (b < length to.now) × (length to.now * length to.now ≤ length room.old) }
+    ensures { room.new ≡ with_column (length to.now) b (column_of to.now) (length to.now) room.old }
 {
-    let mut a = 0;
-    while a < desks {
-        room[place_of(desks, a, b)] = links_or_none(to[a]);
-        a += 1;
+    for (a, &count) in to.iter().enumerate() {
+        room[place_of(to.len(), a, b)] = links_or_none(count);
     }
 }
 
@@ -39,10 +38,8 @@ pub fn fill(links: &[u8], desks: usize, room: &mut [u32])
     requires { (length links.now ≡ most_pairs) × (desks ≤ most_desks) × (desks * desks ≤ length room.old) }
     ensures { room.new ≡ grid_over (links_in links.now) desks ++ drop (desks * desks) room.old }
 {
-    let mut b = 0;
-    while b < desks {
+    for b in 0..desks {
         let to = reach(links, b, LINKS);
-        put_column(room, &to, desks, b);
-        b += 1;
+        put_column(room, &to[..desks], b);
     }
 }

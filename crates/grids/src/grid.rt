@@ -1,42 +1,42 @@
 // The grid: its refusals and its entry.
 ghost use Rattle.std.specs.Prelude.{◌≡◌, length};
-ghost use Rattle.grids.specs.Grids.{grid_refusal, gridded, room_after, grid_numbers_of, GridTells};
+ghost use Rattle.rules.specs.Refusals.{refusal_of, numbered};
+ghost use Rattle.rules.specs.Answers.{done_numbers_of};
+ghost use Rattle.grids.specs.Grids.{grid_refusal, gridded, room_after, GridTells};
 
-use crate::GridAnswer;
 use crate::filling::fill;
 use judging::fitting::accepted;
 use reaching::linking::links_of;
-use rules::{NOT_ACCEPTED, Setup, TOO_LITTLE_ROOM};
+use rules::{Refusal, Setup};
 
-// The refusal of a grid, or 0: the order is 15, 11.
+// The order is 15, 11.
 #[tactic(auto, unfolding(crate::specs::Grids::grid_refusal))]
-fn grid_refusal(setup: Setup, room: usize) -> u32
-    ensures { result ≡ grid_refusal setup room }
+fn grid_refusal(setup: &Setup, room: usize) -> Result<(), Refusal>
+    ensures { refusal_of result ≡ grid_refusal setup.now room }
 {
     if !accepted(setup) {
-        return NOT_ACCEPTED;
+        return Err(Refusal::NotAccepted);
     }
     let desks = setup.desks as usize;
     if room < desks * desks {
-        return TOO_LITTLE_ROOM;
+        return Err(Refusal::TooLittleRoom);
     }
-    0
+    Ok(())
 }
 
-// Entry: the number of links from every desk to every desk, into the front of the room. A refused grid writes nothing.
-pub fn grid(setup: Setup, room: &mut [u32]) -> GridAnswer
-    ensures value { result ≡ gridded setup (length room.old) }
+// Entry: the number of links from every desk to every desk, into the front of the room; the answer is how many numbers that are. A refused grid
+// writes nothing.
+#[tactic(auto, using(crate::proofs::Whole::refused_told, crate::proofs::Whole::refused_numbers))]
+pub fn grid(setup: Setup, room: &mut [u32]) -> Result<u32, Refusal>
+    ensures value { numbered result ≡ gridded setup (length room.old) }
     ensures room { room.new ≡ room_after setup room.old }
-    ensures demand3 { GridTells setup result room.new }
-    ensures numbers { grid_numbers_of result ≡ grid_numbers_of (gridded setup (length room.old)) }
+    ensures demand3 { GridTells setup (numbered result) room.new }
+    ensures numbers { done_numbers_of (numbered result) ≡ done_numbers_of (gridded setup (length room.old)) }
 {
-    let refusal = grid_refusal(setup, room.len());
-    if refusal != 0 {
-        return GridAnswer::Refused(refusal);
-    }
+    grid_refusal(&setup, room.len())?;
     let desks = setup.desks as usize;
-    let links = links_of(setup);
+    let links = links_of(&setup);
     fill(&links, desks, room);
     let count = (desks * desks) as u32;
-    GridAnswer::Filled(count)
+    Ok(count)
 }

@@ -3,10 +3,3 @@
 
 mod filling;
 pub mod grid;
-
-// How many numbers were filled in, or the refusal.
-#[derive(Clone, Copy)]
-pub enum GridAnswer {
-    Filled(u32),
-    Refused(u32),
-}

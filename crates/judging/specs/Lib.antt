@@ -1,2 +1,2 @@
--- What the contracts of functions that are no entries cite.
-pub mod Tables
+-- What the contracts of the code that takes a setup's bytes cite.
+pub mod Given

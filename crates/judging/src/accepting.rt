@@ -1,18 +1,32 @@
 // Accepting a setup that is handed in as four counts and three slices.
-ghost use Rattle.std.specs.Prelude.{◌≡◌, ◌<◌, ◌≤◌, length, get_or};
+ghost use Rattle.std.specs.Prelude.{◌≡◌, ◌<◌, ◌≤◌, get_or};
 ghost use Rattle.rules.specs.Sizes.{most_desks, most_classes, table};
-ghost use Rattle.rules.specs.Setups.{setup_bytes, given_right, given_rights, setup_from, blank_setup};
-ghost use Rattle.rules.specs.Refusals.{slices_match, some_from, setup_refusal};
-ghost use Rattle.rules.specs.Entries.{acceptance};
+ghost use Rattle.rules.specs.Setups.{given_right, given_rights, setup_from};
+ghost use Rattle.rules.specs.Refusals.{refusal_of, slices_match, some_from, setup_refusal};
+ghost use Rattle.rules.specs.Entries.{given_setup, acceptance};
+ghost use Rattle.judging.specs.Given.{bytes_of};
 
-use crate::fitting::{entries_fit, within_sizes};
+use crate::fitting::within_sizes;
 use crate::rights::entry_at;
-use rules::{
-    BOTH, CLASSES, COUNT_OUTSIDE, FILES, GivenSetup, NO_SUCH_CLASS, NO_SUCH_DESK, PROCESSES,
-    RIGHT_ABOVE, RIGHTS, Setup, WRONG_LENGTH,
-};
+use rules::{BOTH, CLASSES, FILES, PROCESSES, RIGHTS, Refusal, Setup};
+use std::array;
 
-// The right that rights given row by desk have for a desk and a class; past the counts there is none.
+// A setup handed in as bytes: the four counts, as numbers, and three slices.
+#[derive(Clone, Copy)]
+pub struct SetupBytes<'a> {
+    pub desks: u32,
+    pub classes: u32,
+    pub processes: u32,
+    pub files: u32,
+    // The rights row by desk, the desk of each process, and the class of each file.
+    pub rights: &'a [u8],
+    pub desk: &'a [u8],
+    pub class: &'a [u8],
+}
+
+// The right that rights given row by desk have for a desk and a class; past the counts there is none. That the counts lie inside their sizes
+// is asked by clauses, here and below: a SetupBytes is any that a caller hands in.
+#[tactic(auto, unfolding(rules::specs::Setups::given_right))]
 fn given_right(rights: &[u8], classes: usize, d: usize, t: usize) -> u8
     requires { (classes ≤ most_classes) × (d < most_desks) }
     ensures { result ≡ given_right rights.now classes d t }
@@ -28,140 +42,77 @@ fn given_rights(rights: &[u8], classes: usize) -> [u8; RIGHTS]
     requires { classes ≤ most_classes }
     ensures { result ≡ given_rights rights.now classes }
 {
-    let mut filled = [0u8; RIGHTS];
-    let mut i = 0;
-    while i < RIGHTS {
-        filled[i] = given_right(rights, classes, i / CLASSES, i % CLASSES);
-        i += 1;
-    }
-    filled
+    array::from_fn(|i| given_right(rights, classes, i / CLASSES, i % CLASSES))
 }
 
 // The entries at the front, and 0 past them.
-fn fill_front(filled: &mut [u8], entries: &[u8])
-    ensures { filled.new ≡ table (length filled.old) (λ i. get_or entries.now i 0) }
+fn laid_out<const N: usize>(entries: &[u8]) -> [u8; N]
+    ensures { result ≡ table N (λ i. get_or entries.now i 0) }
 {
-    let mut i = 0;
-    while i < filled.len() {
-        filled[i] = entry_at(entries, i);
-        i += 1;
-    }
+    array::from_fn(|i| entry_at(entries, i))
 }
 
-fn slices_match(
-    desks: u32,
-    classes: u32,
-    processes: u32,
-    files: u32,
-    rights: &[u8],
-    desk: &[u8],
-    class: &[u8],
-) -> bool
-    requires { (desks ≤ most_desks) × (classes ≤ most_classes) }
-    ensures { result ≡ slices_match (setup_bytes desks classes processes files rights.now desk.now class.now) }
+#[tactic(auto, unfolding(rules::specs::Refusals::slices_match))]
+fn slices_match(given: SetupBytes<'_>) -> bool
+    requires { (given.desks ≤ most_desks) × (given.classes ≤ most_classes) }
+    ensures { result ≡ slices_match (bytes_of given.entry) }
 {
-    (rights.len() == desks as usize * classes as usize)
-        & (desk.len() == processes as usize)
-        & (class.len() == files as usize)
+    (given.rights.len() == given.desks as usize * given.classes as usize)
+        & (given.desk.len() == given.processes as usize)
+        & (given.class.len() == given.files as usize)
 }
 
 // Some entry is the bound or more.
 fn some_from(entries: &[u8], bound: usize) -> bool
     ensures { result ≡ some_from bound entries.now }
 {
-    !entries_fit(entries, entries.len(), bound)
+    entries.iter().any(|entry| *entry as usize >= bound)
 }
 
-// The refusal of a setup's bytes, or 0: the order is 1, 10, 2, 3, 4, and no product is made before 1 is ruled out.
+// The order of refusals is 1, 10, 2, 3, 4, and no product is made before 1 is ruled out.
 #[tactic(auto, unfolding(rules::specs::Refusals::setup_refusal))]
-fn setup_refusal(
-    desks: u32,
-    classes: u32,
-    processes: u32,
-    files: u32,
-    rights: &[u8],
-    desk: &[u8],
-    class: &[u8],
-) -> u32
-    ensures { result ≡ setup_refusal (setup_bytes desks classes processes files rights.now desk.now class.now) }
+fn setup_refusal(given: SetupBytes<'_>) -> Result<(), Refusal>
+    ensures { refusal_of result ≡ setup_refusal (bytes_of given.entry) }
 {
-    if !within_sizes(desks, classes, processes, files) {
-        return COUNT_OUTSIDE;
+    if !within_sizes(given.desks, given.classes, given.processes, given.files) {
+        return Err(Refusal::CountOutside);
     }
-    if !slices_match(desks, classes, processes, files, rights, desk, class) {
-        return WRONG_LENGTH;
+    if !slices_match(given) {
+        return Err(Refusal::WrongLength);
     }
-    if some_from(rights, BOTH as usize + 1) {
-        return RIGHT_ABOVE;
+    if some_from(given.rights, BOTH as usize + 1) {
+        return Err(Refusal::RightAbove);
     }
-    if some_from(desk, desks as usize) {
-        return NO_SUCH_DESK;
+    if some_from(given.desk, given.desks as usize) {
+        return Err(Refusal::NoSuchDesk);
     }
-    if some_from(class, classes as usize) {
-        return NO_SUCH_CLASS;
+    if some_from(given.class, given.classes as usize) {
+        return Err(Refusal::NoSuchClass);
     }
-    0
+    Ok(())
 }
 
-fn setup_from(
-    desks: u32,
-    classes: u32,
-    processes: u32,
-    files: u32,
-    rights: &[u8],
-    desk: &[u8],
-    class: &[u8],
-) -> Setup
-    requires { classes ≤ most_classes }
-    ensures { result ≡ setup_from (setup_bytes desks classes processes files rights.now desk.now class.now) }
-{
-    let all_rights = given_rights(rights, classes as usize);
-    let mut all_desks = [0u8; PROCESSES];
-    fill_front(&mut all_desks, desk);
-    let mut all_classes = [0u8; FILES];
-    fill_front(&mut all_classes, class);
-    Setup {
-        desks,
-        classes,
-        processes,
-        files,
-        rights: all_rights,
-        desk: all_desks,
-        class: all_classes,
-    }
-}
-
-pub fn blank_setup() -> Setup
-    ensures { result ≡ blank_setup }
+#[tactic(auto, unfolding(rules::specs::Setups::setup_from))]
+fn setup_from(given: SetupBytes<'_>) -> Setup
+    requires { given.classes ≤ most_classes }
+    ensures { result ≡ setup_from (bytes_of given.entry) }
 {
     Setup {
-        desks: 0,
-        classes: 0,
-        processes: 0,
-        files: 0,
-        rights: [0u8; RIGHTS],
-        desk: [0u8; PROCESSES],
-        class: [0u8; FILES],
+        desks: given.desks,
+        classes: given.classes,
+        processes: given.processes,
+        files: given.files,
+        rights: given_rights(given.rights, given.classes as usize),
+        desk: laid_out(given.desk),
+        class: laid_out(given.class),
     }
 }
 
 // Entry: the setup that the counts and the slices give, or their refusal.
-pub fn accept(
-    desks: u32,
-    classes: u32,
-    processes: u32,
-    files: u32,
-    rights: &[u8],
-    desk: &[u8],
-    class: &[u8],
-) -> GivenSetup
-    ensures { result ≡ acceptance (setup_bytes desks classes processes files rights.now desk.now class.now) }
+#[tactic(auto, using(crate::proofs::Acceptances::bytes_refused, crate::proofs::Acceptances::bytes_taken, crate::proofs::Acceptances::classes_inside))]
+pub fn accept(given: SetupBytes<'_>) -> Result<Setup, Refusal>
+    ensures { given_setup result ≡ acceptance (bytes_of given.entry) }
 {
-    let refusal = setup_refusal(desks, classes, processes, files, rights, desk, class);
-    if refusal != 0 {
-        let setup = blank_setup();
-        return GivenSetup { refusal, setup };
-    }
-    let setup = setup_from(desks, classes, processes, files, rights, desk, class);
-    GivenSetup { refusal: 0, setup }
+    setup_refusal(given)?;
+    Ok(setup_from(given))
 }

@@ -1,7 +1,6 @@
 // The right of a process's desk on a file's class.
-ghost use Rattle.std.specs.Prelude.{◌≡◌, ◌+◌, ◌*◌, get_or};
-ghost use Rattle.rules.specs.Sizes.{most_classes};
-ghost use Rattle.rules.specs.Setups.{has_r, has_w, may_write};
+ghost use Rattle.std.specs.Prelude.{◌≡◌, get_or};
+ghost use Rattle.rules.specs.Setups.{has_r, has_w, desk_of, class_of, right_of, may_write};
 
 use rules::{BOTH, CLASSES, R, Setup, W};
 
@@ -9,18 +8,23 @@ use rules::{BOTH, CLASSES, R, Setup, W};
 pub fn entry_at(entries: &[u8], at: usize) -> u8
     ensures { result ≡ get_or entries.now at 0 }
 {
-    if at < entries.len() { entries[at] } else { 0 }
+    entries.get(at).copied().unwrap_or(0)
 }
 
-// From a setup's three tables, lent, so that none is copied for a look at one entry.
-pub fn right_of<'a>(rights: &'a [u8], desk: &'a [u8], class: &'a [u8], p: usize, f: usize) -> u8
-    ensures { result ≡ get_or rights.now (get_or desk.now p 0 * most_classes + get_or class.now f 0) 0 }
+// The right of desk d on class t; as bytes, since a place of any two numbers could overflow.
+pub fn right(setup: &Setup, d: u8, t: u8) -> u8
+    ensures { result ≡ right_of setup.now d t }
 {
-    let d = entry_at(desk, p) as usize;
-    let t = entry_at(class, f) as usize;
-    entry_at(rights, d * CLASSES + t)
+    entry_at(&setup.rights, d as usize * CLASSES + t as usize)
 }
 
+pub fn right_of(setup: &Setup, p: usize, f: usize) -> u8
+    ensures { result ≡ right_of setup.now (desk_of setup.now p) (class_of setup.now f) }
+{
+    right(setup, entry_at(&setup.desk, p), entry_at(&setup.class, f))
+}
+
+// R and W by a function each: one over both would be called with the constant, which says no more. A right past BOTH is neither.
 pub fn has_r(right: u8) -> bool
     ensures { result ≡ has_r right }
 {
@@ -33,8 +37,9 @@ pub fn has_w(right: u8) -> bool
     (right == W) | (right == BOTH)
 }
 
-pub fn may_write(setup: Setup, p: usize, f: usize) -> bool
-    ensures { result ≡ may_write setup p f }
+#[tactic(auto, unfolding(rules::specs::Setups::may_write))]
+pub fn may_write(setup: &Setup, p: usize, f: usize) -> bool
+    ensures { result ≡ may_write setup.now p f }
 {
-    has_w(right_of(&setup.rights, &setup.desk, &setup.class, p, f))
+    has_w(right_of(setup, p, f))
 }

@@ -15,7 +15,7 @@ use Rattle.lines.specs.Decimals.{is_number, number_of}
 use Rattle.lines.specs.Shapes.{read_as, header_line, access_line, process_line, file_line, calls_line, call_line}
 use Rattle.lines.specs.Readings.{refused, alone, calls_follow, at_start, judge, judge_all, read_text, right_read, bytes_read}
 use Rattle.lines.specs.Entries.{read_alone, reached_with, read_with_calls, calls_read}
-use Rattle.lines.specs.declared.Reading.TheVariants.{Read}
+use Rattle.std.specs.Prelude.{Ok}
 
 -- room for every call that a text can have
 abbrev enough : ℕ
@@ -69,12 +69,12 @@ unfolding same pieces lines_from lines_of fields_of is_number number_of read_as 
 computes = true
 
 -- setup Q's text alone is read to setup Q
-pub q_alone : read_alone setup_text ≡ record { reading = Read 0; setup = setup_q }
+pub q_alone : read_alone setup_text ≡ Ok (record { setup = setup_q; calls = 0 })
 unfolding computes
 q_alone = refl
 
 -- the program case is read to setup Q and its nine calls
-pub q_with_calls : read_with_calls (setup_text ++ call_text) enough ≡ record { reading = Read 9; setup = setup_q }
+pub q_with_calls : read_with_calls (setup_text ++ call_text) enough ≡ Ok (record { setup = setup_q; calls = 9 })
 unfolding computes
 q_with_calls = refl
 
@@ -198,7 +198,7 @@ unfolding computes
 every_word = refl
 
 -- `RW` is both rights
-pub both_rights : read_with_calls words_text enough ≡ record { reading = Read 8; setup = setup_from (setup_bytes 1 1 1 1 (3 ∷ []) (0 ∷ []) (0 ∷ [])) }
+pub both_rights : read_with_calls words_text enough ≡ Ok (record { setup = setup_from (setup_bytes 1 1 1 1 (3 ∷ []) (0 ∷ []) (0 ∷ [])); calls = 8 })
 unfolding computes
 both_rights = refl
 

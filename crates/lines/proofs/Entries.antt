@@ -1,7 +1,7 @@
--- Laws of what the entries that read a text answer: an accepted setup, or a refusal beside the blank one; and the calls read.
+-- Laws of what the entries that read a text answer: an accepted setup, or a refusal; and the calls read.
 -- Assumes nothing.
 use Prim.Native.Nat.{ℕ, ◌*◌, ◌<◌, ◌≤◌}
-use mathlib.Core.Path.{◌≡◌, refl, sym, ◌∙◌, subst}
+use mathlib.Core.Path.{◌≡◌, refl, ap, sym, ◌∙◌}
 use mathlib.Core.Bool.{true}
 use mathlib.Core.List.{List, [], ◌∷◌, ◌++◌}
 use mathlib.Core.Option.{some}
@@ -14,12 +14,14 @@ use Rattle.rules.specs.Setups.{accepted, blank_setup}
 use Rattle.rules.specs.Calls.{Is32, call_width}
 use Rattle.rules.specs.declared.Numbers.{Numbers}
 use Rattle.rules.specs.Refusals.{first_of}
+use Rattle.rules.proofs.Told.{ok_not_err, ok_same, err_same}
 use Rattle.rules.proofs.Lists.{by_test}
 use Rattle.rules.proofs.Refusals.{unmet_iff}
 use Rattle.lines.specs.Shapes.{call_line}
 use Rattle.lines.specs.Readings.{SoFar, at_start, Reached, sound, refused, call_line_order, Text, alone, calls_follow, read_text}
-use Rattle.lines.specs.Entries.{given_by, calls_by, read_alone, reached_with, read_with_calls, calls_read}
-use Rattle.lines.specs.declared.Reading.TheVariants.{Read, Refused}
+use Rattle.lines.specs.Entries.{given_by, calls_by, read_alone, reached_with, read_with_calls, calls_read, setup_beside}
+use Rattle.lines.specs.declared.GivenText.{GivenText}
+use Rattle.std.specs.Prelude.{Ok, Err}
 use Rattle.lines.proofs.Shapes.{call_line_32}
 use Rattle.lines.proofs.Kept.{refused_sound, Keeps, read_keeps}
 use Rattle.lines.proofs.Readings.{read_accepted}
@@ -79,31 +81,26 @@ module _ (text : List ℕ) (room : ℕ) where
   reached_room l = rw (le-ltb room (most_calls * call_width) l)
 
 -- a text that is read was sound to its end, and the number told is that of its calls
-pub given_read : (x : Reached) (n : ℕ) → (given_by x).reading ≡ Read n → (s : SoFar) × (x ≡ sound s) × (length (calls_by x) ≡ n)
-given_read (sound s) n e = (s, refl, cc)
-given_read (refused r at) n e = absurd (read_refused e)
-  where
-    read_refused : Refused r at ≡ Read n → ⊥
-    read_refused q = let z : ◌≡◌ {A = ℕ} 0 1 = cc in omega arith
+pub given_read : (x : Reached) (g : GivenText) → given_by x ≡ Ok g → (s : SoFar) × (x ≡ sound s) × (length (calls_by x) ≡ g.calls)
+given_read (sound s) g e = (s, refl, ap (λ (given : GivenText). given.calls) (ok_same e))
+given_read (refused r at) g e = absurd (ok_not_err (sym e))
 
--- beside a refusal stand the blank setup and no call
-pub given_refused : (x : Reached) (r at : ℕ) → (given_by x).reading ≡ Refused r at → (x ≡ refused r at) × ((given_by x).setup ≡ blank_setup) × (calls_by x ≡ [])
-given_refused (sound s) r at e = absurd (read_refused e)
-  where
-    read_refused : Read (length s.calls) ≡ Refused r at → ⊥
-    read_refused q = let z : ◌≡◌ {A = ℕ} 0 1 = cc in omega arith
-given_refused (refused k n) r at e = (cc, refl, refl)
+-- with a refusal comes the blank setup, and no call
+pub given_refused : (x : Reached) (r at : ℕ) → given_by x ≡ Err (r, at) → (x ≡ refused r at) × (setup_beside (given_by x) ≡ blank_setup) × (calls_by x ≡ [])
+given_refused (sound s) r at e = absurd (ok_not_err e)
+given_refused (refused k n) r at e =
+    let same = err_same e in
+    (ap (λ (f : ℕ × ℕ). refused f.0 f.1) same, refl, refl)
 
-given_accepted_by : (t : Text) (text : List ℕ) (x : Reached) (n : ℕ) → (((s : SoFar) → x ≡ sound s → read_text t text ≡ sound s)) → (given_by x).reading ≡ Read n
-    → accepted (given_by x).setup ≡ true
-given_accepted_by t text x n h e =
-    let (s, q, l) = given_read x n e in
-    subst (λ (y : Reached). accepted (given_by y).setup ≡ true) (sym q) (read_accepted t text s (h s q))
+given_accepted_by : (t : Text) (text : List ℕ) (x : Reached) (g : GivenText) → (((s : SoFar) → x ≡ sound s → read_text t text ≡ sound s)) → given_by x ≡ Ok g
+    → accepted g.setup ≡ true
+given_accepted_by t text (sound s) g h e = rw (← ok_same e) (read_accepted t text s (h s refl))
+given_accepted_by t text (refused r at) g h e = absurd (ok_not_err (sym e))
 
 -- the setup of a text that is read alone is accepted
-pub alone_accepted : (text : List ℕ) (n : ℕ) → (read_alone text).reading ≡ Read n → accepted (read_alone text).setup ≡ true
+pub alone_accepted : (text : List ℕ) (g : GivenText) → read_alone text ≡ Ok g → accepted g.setup ≡ true
 unfolding read_alone
-alone_accepted text n e = given_accepted_by alone text (read_text alone text) n (λ s q. q) e
+alone_accepted text g e = given_accepted_by alone text (read_text alone text) g (λ s q. q) e
 
 -- and so is that of one that is read with its calls
 with_room : (text : List ℕ) (room : ℕ) (s : SoFar) → reached_with text room ≡ sound s → read_text calls_follow text ≡ sound s
@@ -112,9 +109,9 @@ with_room text room s q =
     (λ t. absurd (refused_sound (sym (reached_no_room text room (ltb-true room (most_calls * call_width) t)) ∙ q)))
     (λ f. sym (reached_room text room (ltb-false room (most_calls * call_width) f)) ∙ q)
 
-pub with_calls_accepted : (text : List ℕ) (room n : ℕ) → (read_with_calls text room).reading ≡ Read n → accepted (read_with_calls text room).setup ≡ true
+pub with_calls_accepted : (text : List ℕ) (room : ℕ) (g : GivenText) → read_with_calls text room ≡ Ok g → accepted g.setup ≡ true
 unfolding read_with_calls
-with_calls_accepted text room n e = given_accepted_by calls_follow text (reached_with text room) n (with_room text room) e
+with_calls_accepted text room g e = given_accepted_by calls_follow text (reached_with text room) g (with_room text room) e
 
 -- the calls for the lent run fit it, read or refused, and where the text is read they are as many as it tells
 pub calls_read_fit : (text : List ℕ) (room : ℕ) → CallsFit (calls_read text room)
@@ -125,10 +122,10 @@ calls_read_fit text room = by (reached_with text room) refl
     by (sound s) q = read_calls_fit calls_follow text s (with_room text room s q)
     by (refused r at) q = no_calls
 
-pub calls_read_number : (text : List ℕ) (room n : ℕ) → (read_with_calls text room).reading ≡ Read n → length (calls_read text room) ≡ n
+pub calls_read_number : (text : List ℕ) (room : ℕ) (g : GivenText) → read_with_calls text room ≡ Ok g → length (calls_read text room) ≡ g.calls
 unfolding read_with_calls calls_read
-calls_read_number text room n e = (given_read (reached_with text room) n e).2
+calls_read_number text room g e = (given_read (reached_with text room) g e).2
 
-pub calls_read_refused : (text : List ℕ) (room r at : ℕ) → (read_with_calls text room).reading ≡ Refused r at → calls_read text room ≡ []
+pub calls_read_refused : (text : List ℕ) (room r at : ℕ) → read_with_calls text room ≡ Err (r, at) → calls_read text room ≡ []
 unfolding read_with_calls calls_read
 calls_read_refused text room r at e = (given_refused (reached_with text room) r at e).2

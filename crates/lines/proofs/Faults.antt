@@ -10,7 +10,7 @@ use borrow.Author.Tests.{le-leb}
 use lib.ListN.{length}
 use Rattle.rules.specs.Sizes.{most_calls}
 use Rattle.rules.specs.declared.Numbers.{Numbers}
-use Rattle.rules.specs.Refusals.{Refusal, first_of}
+use Rattle.rules.specs.Refusals.{Ground, first_of}
 use Rattle.rules.proofs.Lists.{by_test, cond_holds}
 use Rattle.lines.specs.Lines.{Line, lines_of, fields_of}
 use Rattle.lines.specs.Shapes.{header_line, access_line, process_line, file_line, calls_line, call_line}
@@ -23,7 +23,7 @@ abbrev At : ℕ → Reached → Type 0
 At at (sound s) = Unit {0}
 At at (refused r n) = n ≡ at
 
-judged-at {ℓ} : {A : Type ℓ} (at : ℕ) (shape : Option A) (order : A → List Refusal) (next : A → SoFar) → At at (judged at shape order next)
+judged-at {ℓ} : {A : Type ℓ} (at : ℕ) (shape : Option A) (order : A → List Ground) (next : A → SoFar) → At at (judged at shape order next)
 judged-at at none order next = refl
 judged-at at (some x) order next =
     unless_holds (At at) (first_of (order x)) (sound (next x)) (refused (first_of (order x)) at) (λ e. tt) refl

@@ -8,7 +8,7 @@ use mathlib.Core.Option.{Option, some, none}
 use native.Mathlib.Omega.{arith}
 use lib.ListN.{length}
 use Rattle.rules.specs.declared.Numbers.{Numbers}
-use Rattle.rules.specs.Refusals.{Refusal, first_of}
+use Rattle.rules.specs.Refusals.{Ground, first_of}
 use Rattle.rules.specs.Entries.{unless}
 use Rattle.rules.proofs.Lists.{by_test, cond_holds}
 use Rattle.lines.specs.Lines.{Line, lines_of, fields_of}
@@ -29,7 +29,7 @@ unless_holds P zero x y f p = f refl
 unless_holds P (suc n) x y f p = p
 
 -- a line that is judged keeps it if what is read after a line of its shape, with nothing against it, has it
-judged_keeps {ℓ κ} : {A : Type ℓ} (P : Due → SoFar → Type κ) (at : ℕ) (shape : Option A) (order : A → List Refusal) (next : A → SoFar)
+judged_keeps {ℓ κ} : {A : Type ℓ} (P : Due → SoFar → Type κ) (at : ℕ) (shape : Option A) (order : A → List Ground) (next : A → SoFar)
     → ((x : A) → shape ≡ some x → first_of (order x) ≡ 0 → P (next x).due (next x)) → Kept P (judged at shape order next)
 judged_keeps P at none order next h = tt
 judged_keeps P at (some x) order next h =

@@ -4,7 +4,7 @@ use Rattle.std.proofs.Math.Option.{Option, some, none}
 use Rattle.rules.specs.Sizes.{table, most_calls}
 use Rattle.rules.specs.Setups.{SetupBytes, setup_bytes, within_sizes}
 use Rattle.rules.specs.declared.Numbers.{Numbers}
-use Rattle.rules.specs.Refusals.{Refusal, ◌gives◌, first_of}
+use Rattle.rules.specs.Refusals.{Ground, ◌gives◌, first_of}
 use Rattle.rules.specs.Entries.{unless}
 use Rattle.lines.specs.Bytes.{word_access, same}
 use Rattle.lines.specs.Lines.{Line, lines_of, fields_of}
@@ -63,26 +63,26 @@ abbrev pub breaks_rules : ℕ
 breaks_rules = 14
 
 -- "a setup count lies outside its sizes"
-abbrev pub refusal1_of_text : Header → Refusal
+abbrev pub refusal1_of_text : Header → Ground
 refusal1_of_text h = not (within_sizes h.desks h.classes h.processes h.files) gives 1
 
 -- "a desk number in a setup is D or more"
-abbrev pub refusal3_of_text : SoFar → ℕ → Refusal
+abbrev pub refusal3_of_text : SoFar → ℕ → Ground
 refusal3_of_text s desk = leb s.counts.desks desk gives 3
 
 -- "a class number in a setup is T or more"
-abbrev pub refusal4_of_text : SoFar → ℕ → Refusal
+abbrev pub refusal4_of_text : SoFar → ℕ → Ground
 refusal4_of_text s class = leb s.counts.classes class gives 4
 
-abbrev pub refusal14 : Bool → Refusal
+abbrev pub refusal14 : Bool → Ground
 refusal14 broken = broken gives breaks_rules
 
 -- "Within a line: shape (14), then ..": what follows is asked of what the shape gave, and then read
-abbrev pub judged {ℓ} : {A : Type ℓ} → ℕ → Option A → (A → List Refusal) → (A → SoFar) → Reached
+abbrev pub judged {ℓ} : {A : Type ℓ} → ℕ → Option A → (A → List Ground) → (A → SoFar) → Reached
 judged at none order next = refused breaks_rules at
 judged at (some x) order next = let r = first_of (order x) in unless r (sound (next x)) (refused r at)
 
-abbrev pub header_order : Header → List Refusal
+abbrev pub header_order : Header → List Ground
 header_order h = refusal1_of_text h ∷ []
 
 -- "strictly rising by desk, then class"
@@ -90,7 +90,7 @@ abbrev pub rises : List Access → Access → Bool
 rises [] a = true
 rises (last ∷ earlier) a = ltb last.desk a.desk || eqb last.desk a.desk && ltb last.class a.class
 
-abbrev pub access_order : SoFar → Access → List Refusal
+abbrev pub access_order : SoFar → Access → List Ground
 access_order s a = refusal3_of_text s a.desk ∷ refusal4_of_text s a.class ∷ refusal14 (not (rises s.access a)) ∷ []
 
 abbrev pub after_access : SoFar → Access → SoFar
@@ -100,7 +100,7 @@ after_access s a = set_due (set_access s (a ∷ s.access)) access_due
 abbrev pub is_next : List ℕ → ℕ → Bool
 is_next earlier n = eqb n (length earlier)
 
-abbrev pub process_order : SoFar → Process → List Refusal
+abbrev pub process_order : SoFar → Process → List Ground
 process_order s p = refusal3_of_text s p.desk ∷ refusal14 (not (is_next s.desk p.number)) ∷ []
 
 -- "then P lines `process`": those so far give these desks
@@ -110,7 +110,7 @@ desks_so_far s desk = set_due (set_desk s desk) (cond (ltb (length desk) s.count
 abbrev pub after_process : SoFar → Process → SoFar
 after_process s p = desks_so_far s (s.desk ++ (p.desk ∷ []))
 
-abbrev pub file_order : SoFar → File → List Refusal
+abbrev pub file_order : SoFar → File → List Ground
 file_order s f = refusal4_of_text s f.class ∷ refusal14 (not (is_next s.class f.number)) ∷ []
 
 -- "then F lines `file`": those so far give these classes
@@ -128,7 +128,7 @@ abbrev pub after_calls : SoFar → SoFar
 after_calls s = calls_so_far s []
 
 -- "A call line past the 1,024th is 14"
-abbrev pub call_line_order : SoFar → List Refusal
+abbrev pub call_line_order : SoFar → List Ground
 call_line_order s = refusal14 (leb most_calls (length s.calls)) ∷ []
 
 abbrev pub after_call : SoFar → Numbers → SoFar

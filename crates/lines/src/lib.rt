@@ -1,18 +1,18 @@
 // What reading a text answers. The line rules are in specs/, their laws in proofs/; a crate above has the code.
 #![tactic(auto)]
 
-use rules::Setup;
+use rules::{Refusal, Setup};
 
-// A text is read, with the number of its calls; or it is refused, with the refusal's number and the offset of the faulty line.
-#[derive(Clone, Copy)]
-pub enum Reading {
-    Read(u32),
-    Refused(u32, usize),
-}
-
-// The reading, and the setup that was read; beside a refusal the blank setup stands.
+// The setup of a text that is read, and the number of its calls.
 #[derive(Clone, Copy)]
 pub struct GivenText {
-    pub reading: Reading,
     pub setup: Setup,
+    pub calls: u32,
+}
+
+// What a text is refused with, and the offset of the faulty line.
+#[derive(Clone, Copy, Debug, PartialEq, Eq)]
+pub struct Fault {
+    pub refusal: Refusal,
+    pub at: usize,
 }

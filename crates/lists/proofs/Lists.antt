@@ -5,6 +5,7 @@ use mathlib.Core.Path.{◌≡◌, refl, ◌∙◌}
 use mathlib.Core.Bool.{true}
 use mathlib.Core.List.{List, [], ◌∷◌, ◌++◌}
 use mathlib.Core.Logic.{◌≢◌}
+use Rattle.std.specs.Prelude.{Ok, Err}
 use native.Mathlib.Omega.{arith}
 use borrow.Author.Tests.{ltb-false, eqb-true, not-false}
 use lib.ListN.{length, drop}
@@ -14,18 +15,19 @@ use Rattle.rules.specs.Sizes.{table, most_calls}
 use Rattle.rules.specs.Setups.{accepted}
 use Rattle.rules.specs.Stores.{fits}
 use Rattle.rules.specs.Calls.{call_width, calls_in, calls_of}
-use Rattle.rules.specs.Refusals.{first_of, refusal15, refusal16, judge_refusal}
+use Rattle.rules.specs.Refusals.{first_of, refusal15, refusal16, judge_refusal, number_of}
 use Rattle.rules.specs.Entries.{unless, called, ran}
 use Rattle.rules.specs.declared.Numbers.{Numbers}
 use Rattle.rules.specs.declared.Setup.{Setup}
 use Rattle.rules.specs.declared.Store.{Store}
+use Rattle.rules.specs.declared.refusal.Refusal.{Refusal}
 use Rattle.rules.proofs.Lists.{neither}
 use Rattle.rules.proofs.Refusals.{unmet_iff, first_of_append, judge_refusal_iff}
 use Rattle.rules.proofs.Entries.{called-judged, ran-fits}
+use Rattle.rules.proofs.RefusalNumbers.{unless_number}
 use Rattle.rules.proofs.Told.{unless_refused}
 use Rattle.views.specs.Machine.{machine}
 use Rattle.lists.specs.Lists.{answer_width, end_of, answers_over, in_numbers, refusal10_of_list, refusal11_of_list, list_order, list_refusal, listed, answers_after}
-use Rattle.lists.specs.declared.ListAnswer.TheVariants.{Ran, Stopped}
 
 -- a list that is not refused has an accepted setup, a fitting store, four numbers a call and room for the answers
 pub record Sound (s : Setup) (m : Store) (numbers room : ℕ) : Type 0 where
@@ -59,10 +61,14 @@ list_judged s m numbers room e = list_after s m numbers room ∙ rw e
 pub list_unjudged : (s : Setup) (m : Store) (numbers room : ℕ) → judge_refusal s m ≢ 0 → list_refusal s m numbers room ≡ judge_refusal s m
 list_unjudged s m numbers room h = list_after s m numbers room ∙ unless_refused (judge_refusal s m) _ _ h
 
+-- what is refused has a number that is not the 0 of none
+pub refused_not_0 : (r : Refusal) (n : ℕ) → number_of r ≡ n → n ≢ 0
+refused_not_0 r n e z = let one : ◌≡◌ {A = ℕ} 0 1 = rw (e ∙ z) at (unless_number {A = ℕ} r 0 1) in omega arith
+
 module _ (s : Setup) (m : Store) (list room : List ℕ) where
   -- a refused list runs nothing and writes nothing
   module _ (h : list_refusal s m (length list) (length room) ≢ 0) where
-    pub listed_stops : listed s m list room ≡ record { answer = Stopped (list_refusal s m (length list) (length room)); store = m }
+    pub listed_stops : listed s m list room ≡ (Err (list_refusal s m (length list) (length room)), m)
     unfolding listed
     listed_stops = unless_refused _ _ _ h
 
@@ -72,7 +78,7 @@ module _ (s : Setup) (m : Store) (list room : List ℕ) where
 
   -- any other runs every call
   module _ (e : list_refusal s m (length list) (length room) ≡ 0) where
-    pub listed_runs : listed s m list room ≡ record { answer = Ran (calls_in list); store = end_of s m (calls_of list) }
+    pub listed_runs : listed s m list room ≡ (Ok (calls_in list), end_of s m (calls_of list))
     unfolding listed
     listed_runs = rw e
 

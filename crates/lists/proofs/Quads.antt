@@ -1,14 +1,13 @@
 -- Laws of calls put into a room as numbers.
 -- Assumes nothing.
 use Prim.Native.Nat.{ℕ, ◌+◌, ◌*◌, ◌≤◌}
-use mathlib.Core.Path.{◌≡◌, ◌∙◌}
-use mathlib.Core.List.{List, [], ◌∷◌, ◌++◌, append_assoc}
+use mathlib.Core.Path.{◌≡◌}
+use mathlib.Core.List.{List, [], ◌++◌, append_assoc}
 use native.Mathlib.Nat.{add-zero, zero-add}
-use native.Mathlib.Numerals.{add-one, add-two, add-three}
 use native.Mathlib.Omega.{arith}
-use lib.ListN.{length, set, take, drop, length-append, length-take, length-drop, take-append-drop}
-use lib.Seq.{take_at, drop-append-add, drop-drop, sets-eq}
-use Rattle.rules.specs.Calls.{numbers, call_width, in_quads}
+use lib.ListN.{length, take, drop, length-append, length-take, length-drop, take-append-drop}
+use lib.Seq.{take_at, drop-append-add, drop-drop}
+use Rattle.rules.specs.Calls.{call_width, in_quads}
 use Rattle.rules.specs.declared.Numbers.{Numbers}
 use Rattle.rules.proofs.Quads.{in_quads_append, in_quads-length}
 use Rattle.lists.specs.Writers.{with_calls}
@@ -49,25 +48,3 @@ module _ (room : List ℕ) (i : ℕ) (xs : List Numbers) (h : (i + length xs) * 
         in_quads_append,
       )
       (simp append_assoc)
-
--- calls put one by one are put together
-module _ (room : List ℕ) (i : ℕ) (a b : Numbers) where
-  pub calls_two : (i + length (a ∷ b ∷ [])) * call_width ≤ length room → with_calls (with_calls room i (a ∷ [])) (i + 1) (b ∷ []) ≡ with_calls room i (a ∷ b ∷ [])
-  calls_two h = calls_more room i (a ∷ []) (omega arith) (b ∷ [])
-
-  pub calls_three : (c : Numbers) → (i + length (a ∷ b ∷ c ∷ [])) * call_width ≤ length room
-      → with_calls (with_calls (with_calls room i (a ∷ [])) (i + 1) (b ∷ [])) (i + 2) (c ∷ []) ≡ with_calls room i (a ∷ b ∷ c ∷ [])
-  calls_three c h = rw (calls_two (omega arith)) (calls_more room i (a ∷ b ∷ []) (omega arith) (c ∷ []))
-
-  pub calls_four : (c d : Numbers) → (i + length (a ∷ b ∷ c ∷ d ∷ [])) * call_width ≤ length room
-      → with_calls (with_calls (with_calls (with_calls room i (a ∷ [])) (i + 1) (b ∷ [])) (i + 2) (c ∷ [])) (i + 3) (d ∷ []) ≡ with_calls room i (a ∷ b ∷ c ∷ d ∷ [])
-  calls_four c d h = rw (calls_three c (omega arith)) (calls_more room i (a ∷ b ∷ c ∷ []) (omega arith) (d ∷ []))
-
--- four numbers set at a call's places put the call there
-pub quad_put : (room : List ℕ) (i op p f x : ℕ) → i * call_width + call_width ≤ length room
-    → (let at = i * call_width in set (set (set (set room at op) (at + 1) p) (at + 2) f) (at + 3) x) ≡ with_calls room i (numbers op p f x ∷ [])
-unfolding with_calls in_quads
-quad_put room i op p f x h =
-    let at = i * call_width in
-    let past : (i + 1) * call_width ≡ at + call_width = omega arith in
-    rw (add-three at, add-two at, add-one at, past) (sets-eq (op ∷ p ∷ f ∷ x ∷ []) room at h ∙ simp append_assoc)

@@ -1,7 +1,7 @@
 -- What the loop over a list keeps: how far the run has come, and what the lent run holds by then.
 -- Assumes nothing.
 use Prim.Native.Nat.{ℕ, ◌+◌, ◌*◌, ◌<◌, ◌≤◌}
-use mathlib.Core.Path.{◌≡◌, refl, ap, sym, ◌∙◌}
+use mathlib.Core.Path.{◌≡◌, refl, ap, ◌∙◌}
 use mathlib.Core.Bool.{true}
 use mathlib.Core.List.{List, [], ◌∷◌, ◌++◌}
 use native.Mathlib.Nat.{le_antisymm}
@@ -47,24 +47,22 @@ module _ (s : Setup) (m : Store) (list room₀ : List ℕ) where
   running_none h = record { before = omega arith; spacious = h; kept = refl; end = refl; answered = refl }
 
   pub running_more : (i : ℕ) (next : Store) (room : List ℕ) → Running s m list room₀ i next room → i < calls_in list →
-      (a : Answer) (k : Store) → ran s next (numbers_at list i) ≡ record { answer = a; store = k } →
-      Running s m list room₀ (i + 1) k (set (set room (i * answer_width) (kind_of a)) (i * answer_width + 1) (value_of a))
+      {n : Numbers} {a : Answer} {k : Store} {filled : List ℕ} → n ≡ numbers_at list i → a ≡ (ran s next n).answer → k ≡ (ran s next n).store →
+      filled ≡ set (set room (i * answer_width) (kind_of a)) (i * answer_width + 1) (value_of a) → Running s m list room₀ (i + 1) k filled
   unfolding in_numbers
-  running_more i next room h l a k e =
+  running_more i next room h l {n} {a} at told left placed =
       let acts = table i (numbers_at list) in
-      let n = numbers_at list i in
       let front = in_numbers (answers_over s m acts) in
-      let more : table (i + 1) (numbers_at list) ≡ acts ++ n ∷ [] = ap (λ (j : ℕ). table j (numbers_at list)) (add-one i) ∙ table_more i (numbers_at list) in
-      let led : ran s (end_of s m acts) n ≡ record { answer = a; store = k } = ap (λ (x : Store). ran s x n) (sym h.end) ∙ e in
+      let more : table (i + 1) (numbers_at list) ≡ acts ++ n ∷ [] = rw (at, add-one i) (table_more i (numbers_at list)) in
       let long : length front ≡ i * answer_width = in_numbers-length (answers_over s m acts) ∙ ap (λ (j : ℕ). j * answer_width) (one_answer_each (machine s) m acts ∙ length-table i (numbers_at list)) in
       let wider : (i + 1) * answer_width ≡ i * answer_width + answer_width = omega arith in
       record {
         before = omega arith;
         spacious = h.spacious;
-        kept = simp length-set h.kept;
-        end = rw (more, end_more s m acts n, led);
+        kept = rw placed (simp length-set h.kept);
+        end = rw (more, end_more s m acts n, ← h.end) left;
         answered =
-            rw (h.answered, set_two front room₀ (i * answer_width) (kind_of a) (value_of a) long (omega arith), wider, more, answers_more s m acts n, led, in_numbers_append);
+            rw (placed, h.answered, set_two front room₀ (i * answer_width) (kind_of a) (value_of a) long (omega arith), wider, more, answers_more s m acts n, ← h.end, ← told, in_numbers_append);
       }
 
   pub running_all : (i : ℕ) (next : Store) (room : List ℕ) → Running s m list room₀ i next room → calls_in list ≤ i →

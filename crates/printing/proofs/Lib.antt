@@ -3,6 +3,6 @@ pub mod Cases
 pub mod Parts
 pub mod Ran
 pub mod Shown
-pub mod Written
 pub mod Texts
 pub mod Widths
+pub mod Written

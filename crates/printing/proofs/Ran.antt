@@ -12,12 +12,10 @@ use Rattle.secrecy.proofs.Runs.{one_answer_each}
 use Rattle.rules.specs.Sizes.{most_calls}
 use Rattle.rules.specs.Stores.{fresh_store}
 use Rattle.rules.specs.Calls.{call_width, calls_in, numbers_at, calls_of}
-use Rattle.rules.specs.Entries.{freshness}
 use Rattle.rules.specs.declared.Setup.{Setup}
 use Rattle.rules.specs.declared.Answer.{Answer}
 use Rattle.rules.specs.declared.Answer.TheVariants.{Nothing}
 use Rattle.rules.proofs.Answers.{answer_of-numbers_of}
-use Rattle.rules.proofs.Entries.{freshness_gives}
 use Rattle.rules.proofs.Refusals.{judge_refusal_iff}
 use Rattle.rules.proofs.Sizes.{length-table, table_is}
 use Rattle.rules.proofs.Stores.{fresh_store-fits}
@@ -55,8 +53,8 @@ module _ (s : Setup) (list room : List ℕ) (h : Runs s list) (l : calls_in list
   counted = one_answer_each (machine s) fresh_store (calls_of list) ∙ length-table (calls_in list) (numbers_at list)
 
   -- their answers are at the front of the room
-  pub answers_front : take (calls_in list * answer_width) (answers_after s (freshness s).store list room) ≡ in_numbers (answers_over s fresh_store (calls_of list))
+  pub answers_front : take (calls_in list * answer_width) (answers_after s fresh_store list room) ≡ in_numbers (answers_over s fresh_store (calls_of list))
   answers_front =
       let answers = answers_over s fresh_store (calls_of list) in
       let long : length (in_numbers answers) ≡ calls_in list * answer_width = in_numbers-length answers ∙ ap (λ (n : ℕ). n * answer_width) counted in
-      rw (freshness_gives s h.taken, room_runs s fresh_store list room runs_list) (take_at (in_numbers answers) (drop (calls_in list * answer_width) room) (calls_in list * answer_width) long)
+      rw (room_runs s fresh_store list room runs_list) (take_at (in_numbers answers) (drop (calls_in list * answer_width) room) (calls_in list * answer_width) long)

@@ -7,19 +7,21 @@ use Rattle.rules.specs.declared.Setup.{Setup}
 use Rattle.rules.specs.declared.Answer.{Answer}
 use Rattle.rules.specs.Answers.{answer_of}
 use Rattle.lists.specs.Lists.{answer_width}
+use Rattle.printing.specs.declared.writing.Writer.{Writer}
 
 -- the run with bytes from a place on, and all else as it was
 unfoldable pub with_bytes : List ℕ → ℕ → List ℕ → List ℕ
 with_bytes run at bytes = take at run ++ (bytes ++ drop (at + length bytes) run)
 
--- bytes that fit there
-pub record Fit (run : List ℕ) (at : ℕ) (bytes : List ℕ) : Type 0 where
-  pub fits : at + length bytes ≤ length run
+-- bytes that fit after what a writer has written
+pub record Fit (w : Writer) (bytes : List ℕ) : Type 0 where
+  pub fits : w.at + length bytes ≤ length w.out.now
 
--- what a writer leaves: the place past the bytes, and the run with them
-pub record Wrote (run : List ℕ) (at : ℕ) (bytes : List ℕ) (end : ℕ) (now : List ℕ) : Type 0 where
-  pub past : end ≡ at + length bytes
-  pub put : now ≡ with_bytes run at bytes
+-- what a writer is once it has written bytes: over the same run, which has them now, and past them
+pub record Wrote (w : Writer) (bytes : List ℕ) (v : Writer) : Type 0 where
+  pub same : v.out.ghost_name ≡ w.out.ghost_name
+  pub past : v.at ≡ w.at + length bytes
+  pub put : v.out.now ≡ with_bytes w.out.now w.at bytes
 
 -- the most digits of a position, which is below 1,024, of a 32-bit number and of a 64-bit number; the most bytes of a word
 abbrev pub longest_position : ℕ

@@ -4,3 +4,4 @@ pub mod Linked
 pub mod TakenOut
 pub mod Marked
 pub mod Nearer
+pub mod Made

@@ -1,19 +1,20 @@
 -- Laws of a table of links: its links are those of the setup that it was made of, and a link that leads nearer is told by it.
 -- Assumes nothing.
-use Prim.Native.Nat.{ℕ, ◌+◌, ◌*◌, ◌/◌, ◌%◌, ◌<◌}
-use mathlib.Core.Path.{◌≡◌, refl, sym, ◌∙◌, fun_ext}
-use mathlib.Core.Bool.{Bool, true, false, ◌&&◌, and-eq-true_iff, true≢false}
+use Prim.Native.Nat.{ℕ, ◌+◌, ◌*◌, ◌/◌, ◌%◌, ◌<◌, ◌≤◌}
+use mathlib.Core.Path.{◌≡◌, refl, ap, sym, ◌∙◌, fun_ext}
+use mathlib.Core.Bool.{Bool, true, false, not, ◌&&◌, and-eq-true_iff, true≢false}
 use mathlib.Core.List.{List}
 use native.Mathlib.Omega.{arith}
 use borrow.Author.Tests.{ltb-true, eqb-true, lt-ltb, eq-eqb}
 use lib.Dec.{ltb, eqb}
-use lib.ListN.{length, get_or}
-use Rattle.rules.specs.Sizes.{most_desks, most_classes, some_below}
+use lib.ListN.{length, get_or, take, length-take}
+use lib.Seq.{get_or-take}
+use Rattle.rules.specs.Sizes.{most_desks, most_classes, most_processes, most_files, some_below, table}
 use Rattle.rules.specs.Setups.{has_r, has_w, desk_of, class_of, right_of, accepted}
 use Rattle.rules.specs.Links.{has_process, serves, linked}
 use Rattle.rules.specs.declared.Setup.{Setup}
 use Rattle.rules.proofs.Lists.{by_test, get_or_by_option}
-use Rattle.rules.proofs.Sizes.{get_or-table, some_below_iff, some_below-true}
+use Rattle.rules.proofs.Sizes.{every_cong, length-table, get_or-table, table_is, some_below_iff, some_below-true}
 use Rattle.rules.proofs.Setups.{accepted_sizes, desk_of-lt, class_of-lt}
 use Rattle.chains.specs.Chains.{Links, far, leads}
 use Rattle.chains.proofs.Acts.{linked_among_most}
@@ -44,9 +45,24 @@ mark-tells : (so : Bool) → eqb (mark so) 1 ≡ so
 mark-tells true = refl
 mark-tells false = refl
 
-marked_at : (n count : ℕ) (entries : List ℕ) (k : ℕ) → k < n → is_marked (marks_of n count entries) k ≡ some_below count (λ i. eqb (get_or entries i 0) k)
-unfolding marks_of
-marked_at n count entries k l = rw (get_or-table n (λ k. mark (some_below count (λ i. eqb (get_or entries i 0) k))) k 0 l) (mark-tells _)
+-- what is below a bound among the first entries is so in the part that they make
+pub front_below : (count : ℕ) (entries : List ℕ) (bound : ℕ) → ((i : ℕ) → i < count → get_or entries i 0 < bound)
+    → (i : ℕ) → i < length (take count entries) → get_or (take count entries) i 0 < bound
+front_below count entries bound h i l =
+    let m : i < count = omega (arith, length-take count entries) in
+    rw (get_or-take count entries i 0 m) (h i m)
+
+-- a number is marked where it is one of a table's
+marked_table : (n count : ℕ) (entry : ℕ → ℕ) (k : ℕ) → k < n → get_or (marks_of n (table count entry)) k false ≡ some_below count (λ i. eqb (entry i) k)
+unfolding marks_of some_below
+marked_table n count entry k l =
+    get_or-table n (λ e. some_below (length (table count entry)) (λ i. eqb (get_or (table count entry) i 0) e)) k false l
+    ∙ ap (λ (m : ℕ). some_below m (λ i. eqb (get_or (table count entry) i 0) k)) (length-table count entry)
+    ∙ ap not (every_cong count _ _ (λ i m. ap (λ (e : ℕ). not (eqb e k)) (get_or-table count entry i 0 m)))
+
+-- the front of a list is the table of its entries
+pub front_table : (xs : List ℕ) (n : ℕ) → n ≤ length xs → take n xs ≡ table n (λ i. get_or xs i 0)
+front_table xs n h = table_is n _ (take n xs) 0 (simp length-take (omega arith)) (λ k l. get_or-take n xs k 0 l)
 
 -- between desks the marks of a relation tell it
 pairs_at : (links : Links) (d e : ℕ) → d < most_desks → e < most_desks → links_in (pairs_of links) d e ≡ links d e
@@ -57,6 +73,13 @@ pairs_at links d e k l =
     ∙ rw (get_or-table most_pairs (λ i. mark (links (i / most_desks) (i % most_desks))) (d * most_desks + e) 0 (omega arith), row, place) (mark-tells _)
 
 module _ (s : Setup) (h : accepted s ≡ true) where
+  -- as many processes and files lie in the tables as there are
+  pub processes_le : s.processes ≤ most_processes
+  processes_le = (accepted_sizes s h).of_processes.high
+
+  pub files_le : s.files ≤ most_files
+  files_le = (accepted_sizes s h).of_files.high
+
   -- a process sits at one of the desks that any setup may have, and a file has one of the classes
   pub desk_lt : (p : ℕ) → p < s.processes → desk_of s p < most_desks
   desk_lt p l = let k = accepted_sizes s h in omega (arith, k.of_desks.high, desk_of-lt s h p (omega (arith, k.of_processes.high)))
@@ -65,14 +88,20 @@ module _ (s : Setup) (h : accepted s ≡ true) where
   class_lt f l = let k = accepted_sizes s h in omega (arith, k.of_classes.high, class_of-lt s h f (omega (arith, k.of_files.high)))
 
   -- the desks that have a process, the classes that have a file, and the links that they and the rights tell
-  abbrev seats : List ℕ
-  seats = marks_of most_desks s.processes s.desk
+  abbrev seats : List Bool
+  seats = marks_of most_desks (table s.processes (desk_of s))
 
-  abbrev filed : List ℕ
-  filed = marks_of most_classes s.files s.class
+  abbrev filed : List Bool
+  filed = marks_of most_classes (table s.files (class_of s))
 
   abbrev told : Links
   told = linked_by s.rights seats filed
+
+  seat_at : (d : ℕ) → d < most_desks → get_or seats d false ≡ some_below s.processes (λ p. eqb (desk_of s p) d)
+  seat_at d l = marked_table most_desks s.processes (desk_of s) d l
+
+  filed_at : (t : ℕ) → t < most_classes → get_or filed t false ≡ some_below s.files (λ f. eqb (class_of s f) t)
+  filed_at t l = marked_table most_classes s.files (class_of s) t l
 
   -- one of them serves where some file does
   served_is : (d e : ℕ) → is_served s.rights filed d e ≡ some_below s.files (serves s d e)
@@ -80,9 +109,9 @@ module _ (s : Setup) (h : accepted s ≡ true) where
       same_tests
       (λ x.
       let (t, l, y) = (some_below_iff most_classes (serving s.rights filed d e)).0 x in
-      let (m, r) = (and-eq-true_iff (is_marked filed t && has_w (right_of s d t)) (has_r (right_of s e t))).0 y in
-      let (k, w) = (and-eq-true_iff (is_marked filed t) (has_w (right_of s d t))).0 m in
-      let (f, i, z) = (some_below_iff s.files (λ f. eqb (class_of s f) t)).0 (sym (marked_at most_classes s.files s.class t l) ∙ k) in
+      let (m, r) = (and-eq-true_iff (get_or filed t false && has_w (right_of s d t)) (has_r (right_of s e t))).0 y in
+      let (k, w) = (and-eq-true_iff (get_or filed t false) (has_w (right_of s d t))).0 m in
+      let (f, i, z) = (some_below_iff s.files (λ f. eqb (class_of s f) t)).0 (sym (filed_at t l) ∙ k) in
       let q = eqb-true (class_of s f) t z in
       some_below-true s.files (serves s d e) f i (rw q ((and-eq-true_iff (has_w (right_of s d t)) (has_r (right_of s e t))).1 (w, r))))
       (λ x.
@@ -90,13 +119,13 @@ module _ (s : Setup) (h : accepted s ≡ true) where
       let t = class_of s f in
       let l = class_lt f i in
       let (w, r) = (and-eq-true_iff (has_w (right_of s d t)) (has_r (right_of s e t))).0 y in
-      let k = marked_at most_classes s.files s.class t l ∙ some_below-true s.files (λ g. eqb (class_of s g) t) f i (eq-eqb t t refl) in
+      let k = filed_at t l ∙ some_below-true s.files (λ g. eqb (class_of s g) t) f i (eq-eqb t t refl) in
       some_below-true most_classes (serving s.rights filed d e) t l
-      ((and-eq-true_iff (is_marked filed t && has_w (right_of s d t)) (has_r (right_of s e t))).1 ((and-eq-true_iff (is_marked filed t) (has_w (right_of s d t))).1 (k, w), r)))
+      ((and-eq-true_iff (get_or filed t false && has_w (right_of s d t)) (has_r (right_of s e t))).1 ((and-eq-true_iff (get_or filed t false) (has_w (right_of s d t))).1 (k, w), r)))
 
   told_is : (d e : ℕ) → d < most_desks → e < most_desks → told d e ≡ linked s d e
   unfolding linked has_process
-  told_is d e k l = rw (marked_at most_desks s.processes s.desk d k, marked_at most_desks s.processes s.desk e l, served_is d e)
+  told_is d e k l = rw (seat_at d k, seat_at e l, served_is d e)
 
   -- no link of a setup runs from or to a number that is no desk
   unlinked : (d e : ℕ) → (ltb d most_desks && ltb e most_desks ≡ false) → linked s d e ≡ false

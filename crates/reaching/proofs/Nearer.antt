@@ -25,9 +25,9 @@ module _ (links : Links) (before : List ℕ) (n d : ℕ) (l : d < length before)
   nearer_was h = rw (get_or-inside before d far 0 l, lt-ltb (get_or before d 0) far h)
 
   -- where none did, it is one more than n if a link leads on, and past every number of links if none does
-  pub nearer-one : far ≤ get_or before d 0 → some_below most_desks (leads links before d n) ≡ true → n + 1 ≡ nearer links before n d
+  pub nearer_one : far ≤ get_or before d 0 → some_below most_desks (leads links before d n) ≡ true → n + 1 ≡ nearer links before n d
   unfolding nearer
-  nearer-one h k = rw (get_or-inside before d far 0 l, le-ltb (get_or before d 0) far h, k) (add-one n)
+  nearer_one h k = rw (get_or-inside before d far 0 l, le-ltb (get_or before d 0) far h, k) (add-one n)
 
   pub nearer_none : far ≤ get_or before d 0 → some_below most_desks (leads links before d n) ≡ false → far ≡ nearer links before n d
   unfolding nearer

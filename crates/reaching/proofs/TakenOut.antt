@@ -20,7 +20,6 @@ use Rattle.reaching.proofs.Linked.{links_in-at}
 -- desk c is taken out of a table as far as the desks before n: no link is marked from it to them or to it from them
 pub record TakenOut (was : List ℕ) (c : ℕ) (links : List ℕ) (n : ℕ) : Type 0 where
   pub long : length links ≡ most_pairs
-  pub before : n ≤ most_desks
   pub none_from : (d : ℕ) → d < n → get_or links (c * most_desks + d) 0 ≡ 0
   pub none_to : (d : ℕ) → d < n → get_or links (d * most_desks + c) 0 ≡ 0
   pub others_are : (d e : ℕ) → d < most_desks → e < most_desks → d ≢ c → e ≢ c → get_or links (d * most_desks + e) 0 ≡ get_or was (d * most_desks + e) 0
@@ -29,7 +28,6 @@ pub taken_none : (was : List ℕ) (c : ℕ) → length was ≡ most_pairs → Ta
 taken_none was c l =
     record {
       long = l;
-      before = omega arith;
       none_from = λ d h. absurd (omega arith);
       none_to = λ d h. absurd (omega arith);
       others_are = λ d e k m x y. refl;
@@ -45,7 +43,6 @@ taken_more was c links n desk h l =
     let long : length from ≡ most_pairs = length-set links (c * most_desks + n) 0 ∙ h.long in
     record {
       long = length-set from (n * most_desks + c) 0 ∙ long;
-      before = omega arith;
       none_from = λ d k.
           zero-stays from _ _
           (⊎_elim (λ q. rw q (put links (c * most_desks + n) h.long (omega arith))) (λ m. zero-stays links _ _ (h.none_from d m)) (eq-or-lt_of_le (omega arith)));

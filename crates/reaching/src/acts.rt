@@ -1,56 +1,39 @@
-// The lowest process of a desk, and the lowest file that serves a link.
-ghost use Rattle.std.specs.Prelude.{◌≡◌, true, ◌&&◌, ◌+◌, ◌*◌, ◌<◌, get_or};
-ghost use Rattle.rules.specs.Sizes.{most_desks, most_classes};
-ghost use Rattle.rules.specs.Setups.{has_r, has_w, accepted};
+// The lowest process of a desk, and the lowest file that serves a link. Clauses of this crate ask that a desk is one of the desks and a setup
+// accepted, and no type does: docs/ names the functions, and a type would ask more of who calls them.
+ghost use Rattle.std.specs.Prelude.{◌≡◌, true, ◌<◌};
+ghost use Rattle.rules.specs.Sizes.{most_desks};
+ghost use Rattle.rules.specs.Setups.{accepted};
+ghost use Rattle.rules.specs.Links.{serves};
 ghost use Rattle.chains.specs.Chains.{process_at, file_for};
 
-use judging::rights::{entry_at, has_r, has_w};
-use rules::{CLASSES, Setup};
+use crate::searching::lowest;
+use judging::rights::{entry_at, has_r, has_w, right};
+use rules::Setup;
 
 // The lowest process that sits at desk d, below the number of processes, and that number where none does.
-pub fn lowest_process(setup: Setup, d: usize) -> usize
-    requires { (accepted setup ≡ true) × (d < most_desks) }
-    ensures { result ≡ process_at setup d }
+// No Option: docs/DECISIONS.md names it, it could not fail before and still cannot, and its clause is `process_at` of chains, which is that number.
+#[tactic(auto, using(crate::proofs::Linked::processes_le))]
+pub fn lowest_process(setup: &Setup, d: usize) -> usize
+    requires { (accepted setup.now ≡ true) × (d < most_desks) }
+    ensures { result ≡ process_at setup.now d }
 {
-    let processes = setup.processes as usize;
-    let mut p = 0;
-    loop {
-        if processes <= p {
-            break processes;
-        }
-        if setup.desk[p] as usize == d {
-            break p;
-        }
-        p += 1;
-    }
+    lowest(setup.processes as usize, |p| setup.desk[p] as usize == d)
 }
 
-// Desk d writes and desk e reads the class of file f. The two tables are lent, so that none is copied for a look.
-fn serves<'a>(rights: &'a [u8], class: &'a [u8], d: usize, e: usize, f: usize) -> bool
+// Desk d writes and desk e reads the class of file f.
+fn serves(setup: &Setup, d: usize, e: usize, f: usize) -> bool
     requires { (d < most_desks) × (e < most_desks) }
-    ensures { result ≡ (has_w (get_or rights.now (d * most_classes + get_or class.now f 0) 0) && has_r (get_or rights.now (e * most_classes + get_or class.now f 0) 0)) }
+    ensures { result ≡ serves setup.now d e f }
 {
-    let t = entry_at(class, f) as usize;
-    if !has_w(entry_at(rights, d * CLASSES + t)) {
-        return false;
-    }
-    has_r(entry_at(rights, e * CLASSES + t))
+    let t = entry_at(&setup.class, f);
+    has_w(right(setup, d as u8, t)) && has_r(right(setup, e as u8, t))
 }
 
 // The lowest file that serves, below the number of files, and that number where none does.
-pub fn file_for(setup: Setup, d: usize, e: usize) -> usize
+// No Option: docs/DECISIONS.md names it too, it could not fail before and still cannot, and its clause is `file_for` of chains, with that number.
+pub fn file_for(setup: &Setup, d: usize, e: usize) -> usize
     requires { (d < most_desks) × (e < most_desks) }
-    ensures { result ≡ file_for setup d e }
+    ensures { result ≡ file_for setup.now d e }
 {
-    let files = setup.files as usize;
-    let mut f = 0;
-    loop {
-        if files <= f {
-            break files;
-        }
-        if serves(&setup.rights, &setup.class, d, e, f) {
-            break f;
-        }
-        f += 1;
-    }
+    lowest(setup.files as usize, |f| serves(setup, d, e, f))
 }

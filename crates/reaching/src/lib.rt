@@ -5,3 +5,4 @@ pub mod acts;
 pub mod leading;
 pub mod linking;
 pub mod nearing;
+mod searching;

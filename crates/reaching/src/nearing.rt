@@ -6,16 +6,19 @@ ghost use Rattle.reaching.specs.Tables.{most_pairs, links_in};
 
 use crate::leading::leads_on;
 use rules::DESKS;
+use std::array;
 
 // The most links that a chain needs.
 pub const LINKS: usize = DESKS - 1;
 
 // A number past every number of links that a chain needs.
+// No Option where there is none: docs/DECISIONS.md names `reach`, and its clause is `reach` of chains, which holds that number there.
 pub const FAR: u8 = DESKS as u8;
 
 // The number that stood at d, and where none did one more than n if a link leads to a desk that stands n links from the end.
-fn nearer_at(links: &[u8], before: &[u8], n: usize, d: usize) -> u8
-    requires { (length links.now ≡ most_pairs) × (length before.now ≡ most_desks) × (n < most_links) × (d < most_desks) }
+#[tactic(auto, using(crate::proofs::Nearer::nearer_was, crate::proofs::Nearer::nearer_one, crate::proofs::Nearer::nearer_none))]
+fn nearer_at(links: &[u8], before: &[u8; DESKS], n: usize, d: usize) -> u8
+    requires { (length links.now ≡ most_pairs) × (n < most_links) × (d < most_desks) }
     ensures { result ≡ nearer (links_in links.now) before.now n d }
 {
     let was = before[d];
@@ -30,30 +33,18 @@ fn nearer_at(links: &[u8], before: &[u8], n: usize, d: usize) -> u8
     }
 }
 
-fn nearer(links: &[u8], before: &[u8], n: usize) -> [u8; DESKS]
-    requires { (length links.now ≡ most_pairs) × (length before.now ≡ most_desks) × (n < most_links) }
+fn nearer(links: &[u8], before: &[u8; DESKS], n: usize) -> [u8; DESKS]
+    requires { (length links.now ≡ most_pairs) × (n < most_links) }
     ensures { result ≡ table most_desks (nearer (links_in links.now) before.now n) }
 {
-    let mut to = [FAR; DESKS];
-    let mut d = 0;
-    while d < DESKS {
-        to[d] = nearer_at(links, before, n, d);
-        d += 1;
-    }
-    to
+    array::from_fn(|d| nearer_at(links, before, n, d))
 }
 
 // Some desk stands k links from the end.
 fn stands(to: &[u8], k: u8) -> bool
     ensures { result ≡ some_below (length to.now) (λ e. eqb (get_or to.now e 0) k) }
 {
-    let mut some = false;
-    let mut e = 0;
-    while e < to.len() {
-        some = some | (to[e] == k);
-        e += 1;
-    }
-    some
+    to.contains(&k)
 }
 
 // Answers for all desks at once: a call of itself for each desk would be as many calls a level as there are desks.

@@ -1,14 +1,16 @@
 -- Demand 3: what the route report answers and writes is what it promises of the two desks.
 -- Assumes nothing.
 use Prim.Native.Nat.{ℕ, ◌<◌, ◌≤◌}
-use mathlib.Core.Path.{◌≡◌}
+use mathlib.Core.Path.{◌≡◌, ap}
 use mathlib.Core.Logic.{◌↔◌}
 use mathlib.Core.List.{List, ◌++◌}
 use native.Mathlib.Omega.{arith}
 use lib.ListN.{length}
+use Rattle.std.specs.Prelude.{Option, None, Result, Ok}
 use Rattle.rules.specs.Sizes.{most_desks}
 use Rattle.rules.specs.Calls.{in_quads}
 use Rattle.rules.specs.Links.{linked}
+use Rattle.rules.specs.Answers.{told_numbers_of}
 use Rattle.rules.specs.declared.Setup.{Setup}
 use Rattle.rules.proofs.Setups.{accepted_sizes}
 use Rattle.rules.proofs.Told.{refused_or_not}
@@ -21,7 +23,6 @@ use Rattle.demand.specs.Heard.{Unheard}
 use Rattle.demand.proofs.Exactly.{exactly}
 use Rattle.routes.specs.Reports.{route_refusal, routed, room_after}
 use Rattle.routes.specs.Demand3.{ShownBy, Demand3}
-use Rattle.routes.specs.declared.RouteAnswer.TheVariants.{NoRoute}
 use Rattle.routes.proofs.Fronts.{front_shows}
 use Rattle.routes.proofs.Reports.{with_shown, Sound, route_sound, routed_refused, room_refused, room_is, routed_none, routed_shown}
 
@@ -52,8 +53,18 @@ demand3_met s a b room =
     (λ none. rw (routed_none s a b room e none) ((unheard_told s a b h).1 none)))
     (λ h. rw (routed_refused s a b room h, room_refused s a b room h))
 
+-- so an answer and a room that are the report's keep all that it promises
+pub promised : (s : Setup) (a b : ℕ) (was : List ℕ) {after : List ℕ} {r : Result (Option ℕ) ℕ} → r ≡ routed s a b (length was) → after ≡ room_after s a b was
+    → record {
+      value : r ≡ routed s a b (length was);
+      room : after ≡ room_after s a b was;
+      demand3 : Demand3 s a b r after;
+      numbers : told_numbers_of r ≡ told_numbers_of (routed s a b (length was));
+    }
+promised s a b was e w = record { value = e; room = w; demand3 = rw (e, w) (demand3_met s a b was); numbers = ap told_numbers_of e }
+
 -- where no refusal is given, "no route" is the answer exactly where no list of calls lets desk b hear desk a
-pub no_route_exactly : (s : Setup) (a b : ℕ) (room : List ℕ) → route_refusal s a b (length room) ≡ 0 → (routed s a b (length room) ≡ NoRoute) ↔ Unheard s a b
+pub no_route_exactly : (s : Setup) (a b : ℕ) (room : List ℕ) → route_refusal s a b (length room) ≡ 0 → (routed s a b (length room) ≡ Ok None) ↔ Unheard s a b
 no_route_exactly s a b room e =
     let told = unheard_told s a b (route_sound s a b (length room) e) in
     one_by_way (linked s) a b

@@ -4,3 +4,4 @@ pub mod Fronts
 pub mod Demands
 pub mod Reached
 pub mod Written
+pub mod Puts

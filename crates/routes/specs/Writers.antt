@@ -1,16 +1,20 @@
--- For the search by a table of links and the writer of the list, which are no entries: what they ask, and how many calls there are.
-use Rattle.std.specs.Prelude.{ℕ, ◌<◌, ◌≤◌, ◌≡◌, true, ◌≢◌, List, length, get_or}
+-- For the search by a table of links and the writer of the list, which are no entries: what they ask, how many calls there are, and calls put
+-- into a list.
+use Rattle.std.specs.Prelude.{ℕ, ◌+◌, ◌<◌, ◌≤◌, ◌≡◌, true, ◌≢◌, List, length, get_or, Option, Some, None}
 use Rattle.rules.specs.Sizes.{most_desks}
 use Rattle.rules.specs.Setups.{accepted}
 use Rattle.rules.specs.Links.{linked}
+use Rattle.rules.specs.declared.Numbers.{Numbers}
 use Rattle.rules.specs.declared.Setup.{Setup}
+use Rattle.lists.specs.Writers.{with_calls}
 use Rattle.chains.specs.Chains.{Links, is_chain, most_links, walk}
 use Rattle.reaching.specs.Tables.{most_pairs, links_in}
 use Rattle.routes.specs.Reports.{most_route_numbers, told_by}
+use Rattle.routes.specs.declared.writing.CallList.{CallList}
 
--- how many calls show the way from a to b by some links; 0 where there is no chain
-abbrev pub calls_along : Links → ℕ → ℕ → ℕ
-calls_along links a b = told_by links a b (λ n. n) 0
+-- how many calls show the way from a to b by some links; none where there is no chain
+abbrev pub calls_along : Links → ℕ → ℕ → Option ℕ
+calls_along links a b = told_by links a b Some None
 
 -- links that are all a setup's own
 abbrev pub Own : Setup → Links → Type 0
@@ -42,3 +46,9 @@ pub record Ready (s : Setup) (links to : List ℕ) (a : ℕ) (room : List ℕ) :
   pub some : 0 < get_or to a 0
   pub few : get_or to a 0 ≤ most_links
   pub spacious : most_route_numbers ≤ length room
+
+-- what a list is once calls are put after those that it has: in the same room, which has them now, and past them
+pub record Put (l : CallList) (calls : List Numbers) (m : CallList) : Type 0 where
+  pub same : m.room.ghost_name ≡ l.room.ghost_name
+  pub many : m.calls ≡ l.calls + length calls
+  pub put : m.room.now ≡ with_calls l.room.now l.calls calls

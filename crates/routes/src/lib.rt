@@ -15,11 +15,3 @@ pub const CALLS_AT_END: usize = 1;
 
 // The room that every list fits into, in numbers.
 pub const ROUTE_NUMBERS: usize = (CALLS_OF_LINK * LINKS + CALLS_AT_END) * CALL_WIDTH;
-
-// No route, a route and the number of calls that show it, or the refusal.
-#[derive(Clone, Copy)]
-pub enum RouteAnswer {
-    NoRoute,
-    Route(u32),
-    Refused(u32),
-}

@@ -7,13 +7,13 @@ use mathlib.Core.Option.{some}
 use native.Mathlib.Omega.{arith}
 use lib.ListN.{length, get_or, get_elem?, replicate, get_or-map}
 use Rattle.rules.specs.Sizes.{most_processes, most_files}
-use Rattle.rules.specs.Calls.{numbers, calls, first_code, last_code, call_of}
+use Rattle.rules.specs.Calls.{numbers, numbers_for, calls, first_code, last_code, call_of}
 use Rattle.rules.specs.Calls.{code_of_read, code_of_write, code_of_lock, code_of_unlock, code_of_open, code_of_close, code_of_testlock, code_of_copy}
 use Rattle.rules.specs.Parts.{process_of, file_of, changeable}
 use Rattle.rules.specs.declared.Numbers.{Numbers}
 use Rattle.rules.specs.declared.Setup.{Setup}
 use Rattle.rules.specs.declared.Call.{Call}
-use Rattle.rules.specs.declared.Call.TheVariants.{Read}
+use Rattle.rules.specs.declared.Call.TheVariants.{Read, Write, Lock, Unlock, Open, Close, Testlock, Copy}
 use Rattle.rules.proofs.Lists.{set_holds, get_or-alike, get_or_by_option}
 
 -- a call's process exists, and so does each file that it names
@@ -72,3 +72,24 @@ pub codes_named : (p f x : ℕ)
     ≡ calls p f x
 unfolding call_of
 codes_named p f x = refl
+
+-- the numbers of a call name its process and its file
+pub numbers_process : (call : Call) → (numbers_for call).process ≡ process_of call
+numbers_process (Read p f) = refl
+numbers_process (Write p f x) = refl
+numbers_process (Lock p f) = refl
+numbers_process (Unlock p f) = refl
+numbers_process (Open p f) = refl
+numbers_process (Close p f) = refl
+numbers_process (Testlock p f) = refl
+numbers_process (Copy p f x) = refl
+
+pub numbers_file : (call : Call) → (numbers_for call).file ≡ file_of call
+numbers_file (Read p f) = refl
+numbers_file (Write p f x) = refl
+numbers_file (Lock p f) = refl
+numbers_file (Unlock p f) = refl
+numbers_file (Open p f) = refl
+numbers_file (Close p f) = refl
+numbers_file (Testlock p f) = refl
+numbers_file (Copy p f x) = refl

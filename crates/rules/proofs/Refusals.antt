@@ -13,7 +13,7 @@ use Rattle.rules.specs.Sizes.{every, some_below}
 use Rattle.rules.specs.Setups.{SetupBytes, right_both, entry_fits, accepted}
 use Rattle.rules.specs.Stores.{fits}
 use Rattle.rules.specs.Calls.{first_code, last_code, code_of_write, code_of_copy, call_of}
-use Rattle.rules.specs.Refusals.{Refusal, first_of, slices_asked, slices_match, some_from, setup_order, numbers_order}
+use Rattle.rules.specs.Refusals.{Ground, first_of, slices_asked, slices_match, some_from, setup_order, numbers_order}
 use Rattle.rules.specs.Refusals.{refusal5, refusal7, refusal8, refusal9, refusal15, refusal16}
 use Rattle.rules.specs.Refusals.{setup_refusal, call_refusal, fresh_refusal, judge_refusal, numbers_refusal}
 use Rattle.rules.specs.Entries.{unless}
@@ -26,17 +26,17 @@ use Rattle.rules.proofs.Setups.{WithinSizes, within_sizes_iff}
 use Rattle.rules.proofs.Codes.{Exists, process_of-call_of, file_of-call_of, changeable_holds}
 
 -- each number of an order is a refusal's, and not the 0 of none
-abbrev pub Numbered : List Refusal → Type 0
+abbrev pub Numbered : List Ground → Type 0
 Numbered [] = Unit {0}
 Numbered (r ∷ rs) = (0 < r.1) × Numbered rs
 
 -- no condition of an order holds
-abbrev pub Unmet : List Refusal → Type 0
+abbrev pub Unmet : List Ground → Type 0
 Unmet [] = Unit {0}
 Unmet (r ∷ rs) = (r.0 ≡ false) × Unmet rs
 
 -- an order gives 0 exactly where none of its conditions holds
-pub unmet_iff : (order : List Refusal) → Numbered order → (first_of order ≡ 0) ↔ Unmet order
+pub unmet_iff : (order : List Ground) → Numbered order → (first_of order ≡ 0) ↔ Unmet order
 unmet_iff [] h = (λ e. tt, λ u. refl)
 unmet_iff (r ∷ rs) h = first r.0 r.1 h.0 (unmet_iff rs h.1)
   where
@@ -45,7 +45,7 @@ unmet_iff (r ∷ rs) h = first r.0 r.1 h.0 (unmet_iff rs h.1)
     first false n l i = (λ e. (refl, i.0 e), λ u. i.1 u.1)
 
 -- one order after another: the second is looked at only where the first gives none
-pub first_of_append : (order next : List Refusal) → Numbered order → first_of (order ++ next) ≡ unless (first_of order) (first_of next) (first_of order)
+pub first_of_append : (order next : List Ground) → Numbered order → first_of (order ++ next) ≡ unless (first_of order) (first_of next) (first_of order)
 first_of_append [] next h = refl
 first_of_append (r ∷ rs) next h = first r.0 r.1 h.0 (first_of_append rs next h.1)
   where

@@ -6,6 +6,7 @@ use mathlib.Core.Bool.{Bool, true, false, not}
 use mathlib.Core.Logic.{◌≢◌}
 use native.Mathlib.Omega.{arith}
 use borrow.Author.Tests.{not-true, not-false}
+use Rattle.std.specs.Prelude.{Result, Ok, Err}
 use Rattle.rules.specs.Entries.{unless}
 
 -- `if !flag` was taken
@@ -29,3 +30,13 @@ refused_or_not (suc n) f g = g (λ e. omega arith)
 pub unless_refused {ℓ} : {A : Type ℓ} (n : ℕ) (good refused : A) → (n ≡ 0 → ⊥) → unless n good refused ≡ refused
 unless_refused zero good refused h = absurd (h refl)
 unless_refused (suc n) good refused h = refl
+
+-- a result is given or refused, and not both; and it has one value or one refusal
+pub ok_not_err : {A E : Type 0} {x : A} {e : E} → ◌≡◌ {A = Result A E} (Ok x) (Err e) → ⊥
+ok_not_err q = let z : ◌≡◌ {A = ℕ} 0 1 = cc in omega arith
+
+pub ok_same : {A E : Type 0} {x y : A} → ◌≡◌ {A = Result A E} (Ok x) (Ok y) → x ≡ y
+ok_same q = cc
+
+pub err_same : {A E : Type 0} {x y : E} → ◌≡◌ {A = Result A E} (Err x) (Err y) → x ≡ y
+err_same q = cc

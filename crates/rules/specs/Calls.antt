@@ -82,6 +82,17 @@ calls p f x =
 unfoldable pub call_of : Numbers → Call
 call_of n = get_or (calls n.process n.file n.extra) (n.operation - first_code) (Read n.process n.file)
 
+-- the numbers of a call; its extra is 0 where it takes none
+abbrev pub numbers_for : Call → Numbers
+numbers_for (Read p f) = numbers code_of_read p f 0
+numbers_for (Write p f x) = numbers code_of_write p f x
+numbers_for (Lock p f) = numbers code_of_lock p f 0
+numbers_for (Unlock p f) = numbers code_of_unlock p f 0
+numbers_for (Open p f) = numbers code_of_open p f 0
+numbers_for (Close p f) = numbers code_of_close p f 0
+numbers_for (Testlock p f) = numbers code_of_testlock p f 0
+numbers_for (Copy p f x) = numbers code_of_copy p f x
+
 -- "answers the figure"; "READ of an unwritten file answers "nothing""
 abbrev pub read_of : Content → Answer
 read_of content = cond (is_written content) (Figure content.figure) Nothing

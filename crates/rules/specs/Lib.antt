@@ -3,6 +3,7 @@ pub mod Sizes
 pub mod Setups
 pub mod Stores
 pub mod Calls
+pub mod Operations
 pub mod Answers
 pub mod Refusals
 pub mod Entries

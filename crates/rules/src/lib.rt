@@ -1,6 +1,15 @@
-// The types of the store, its sizes, and the names of refusals, kinds and codes. The rules over them are in specs/, their laws in proofs/;
-// crates above have the code.
+// The types of the store, its sizes, and the kinds of what becomes of a list, text, grid or report. The rules over them are in specs/, their
+// laws in proofs/; crates above have the code.
 #![tactic(auto)]
+
+mod crossing;
+mod given;
+mod operation;
+mod refusal;
+
+pub use crossing::{Kind, Numbered};
+pub use operation::Operation;
+pub use refusal::Refusal;
 
 // The least and the most of each thing.
 pub const LEAST: u32 = 1;
@@ -21,91 +30,23 @@ pub const RIGHTS: usize = DESKS * CLASSES;
 // Open marks lie at file * PROCESSES + process, whatever the counts are.
 pub const MARKS: usize = FILES * PROCESSES;
 
-// A right is none, R, W or both.
+// A right is none, R, W or both: bytes, as C hands them in and `Setup` holds them for it.
 pub const R: u8 = 1;
 
 pub const W: u8 = 2;
 
 pub const BOTH: u8 = 3;
 
-// The refusals, by what each is given for.
-pub const COUNT_OUTSIDE: u32 = 1;
-
-pub const RIGHT_ABOVE: u32 = 2;
-
-pub const NO_SUCH_DESK: u32 = 3;
-
-pub const NO_SUCH_CLASS: u32 = 4;
-
-pub const NO_SUCH_OPERATION: u32 = 5;
-
-pub const NO_SUCH_PROCESS: u32 = 6;
-
-pub const NO_SUCH_FILE: u32 = 7;
-
-pub const EXTRA_GIVEN: u32 = 8;
-
-pub const COPY_ONTO_ITSELF: u32 = 9;
-
-pub const WRONG_LENGTH: u32 = 10;
-
-pub const TOO_LITTLE_ROOM: u32 = 11;
-
-pub const NO_SUCH_ROUTE_DESK: u32 = 12;
-
-pub const SAME_DESK: u32 = 13;
-
-pub const BREAKS_RULES: u32 = 14;
-
-pub const NOT_ACCEPTED: u32 = 15;
-
-pub const DOES_NOT_FIT: u32 = 16;
-
-// The kinds of answers.
-pub const KIND_NOTHING: u32 = 0;
-
-pub const KIND_FIGURE: u32 = 1;
-
-pub const KIND_YES: u32 = 2;
-
-pub const KIND_NO: u32 = 3;
-
-pub const KIND_REFUSED: u32 = 4;
-
-// The kind of a list that was run, a text that was read or a grid that was filled, and the kinds of a route report and of a gate report.
+// The kind of a list that was run, a text that was read or a grid that was filled; and those of a report that shows nothing and of one that
+// shows a list, which for a gate are "guarded" and "unguarded". No enums: they would hold Refused once more each, and nothing but C reads them.
 pub const KIND_DONE: u32 = 0;
 
 pub const KIND_NO_ROUTE: u32 = 0;
 
 pub const KIND_ROUTE: u32 = 1;
 
-pub const KIND_GUARDED: u32 = 0;
-
-pub const KIND_UNGUARDED: u32 = 1;
-
-// The codes of the calls, from the first to the last.
-pub const FIRST_CODE: u32 = CODE_OF_READ;
-
-pub const LAST_CODE: u32 = CODE_OF_COPY;
-
-pub const CODE_OF_READ: u32 = 1;
-
-pub const CODE_OF_WRITE: u32 = 2;
-
-pub const CODE_OF_LOCK: u32 = 3;
-
-pub const CODE_OF_UNLOCK: u32 = 4;
-
-pub const CODE_OF_OPEN: u32 = 5;
-
-pub const CODE_OF_CLOSE: u32 = 6;
-
-pub const CODE_OF_TESTLOCK: u32 = 7;
-
-pub const CODE_OF_COPY: u32 = 8;
-
 #[repr(C)]
-#[derive(Clone, Copy)]
+#[derive(Clone, Copy, PartialEq, Eq)]
 pub struct Setup {
     pub desks: u32,
     pub classes: u32,
@@ -117,27 +58,34 @@ pub struct Setup {
     pub class: [u8; FILES],
 }
 
-// What a file holds: a figure, and the written mark, which is 1 in a written file and 0 in an unwritten one.
+// What a file holds: a figure, and the written mark, which is 1 in a written file and 0 in an unwritten one. C lays it out so, and any
+// mark can be handed in, so it is no Option.
 #[repr(C)]
-#[derive(Clone, Copy)]
+#[derive(Clone, Copy, PartialEq, Eq)]
 pub struct Cell {
     pub figure: u32,
     pub written: u32,
 }
 
+// What an unwritten file holds.
+pub const UNWRITTEN: Cell = Cell {
+    figure: 0,
+    written: 0,
+};
+
 // For each file who has it locked, what it holds, and who has it open.
 #[repr(C)]
-#[derive(Clone, Copy)]
+#[derive(Clone, Copy, PartialEq, Eq)]
 pub struct Store {
-    // 0 for unlocked, else the process plus one.
+    // 0 for unlocked, else the process plus one: a number that C lays out, and any can be handed in.
     pub holders: [u32; FILES],
     pub cells: [Cell; FILES],
-    // 1 where the process has the file open, else 0.
+    // 1 where the process has the file open, else 0; any byte can be handed in.
     pub marks: [u8; MARKS],
 }
 
 // A call as numbers: its operation, process p, file f and extra x. CALL_WIDTH counts them.
-#[derive(Clone, Copy)]
+#[derive(Clone, Copy, Debug, PartialEq, Eq)]
 pub struct Numbers {
     pub operation: u32,
     pub process: u32,
@@ -146,7 +94,7 @@ pub struct Numbers {
 }
 
 // A call of process p on file f; the third number is WRITE's figure, and the file that COPY changes.
-#[derive(Clone, Copy)]
+#[derive(Clone, Copy, Debug, PartialEq, Eq)]
 pub enum Call {
     Read(u32, u32),
     Write(u32, u32, u32),
@@ -158,7 +106,8 @@ pub enum Call {
     Copy(u32, u32, u32),
 }
 
-#[derive(Clone, Copy)]
+// A refusal is its number here, as `answer_of` of specs/ says for every two numbers of a run.
+#[derive(Clone, Copy, Debug, PartialEq, Eq)]
 pub enum Answer {
     Nothing,
     Figure(u32),
@@ -167,14 +116,7 @@ pub enum Answer {
     Refused(u32),
 }
 
-// Four numbers are a call, or are not, with the refusal's number.
-#[derive(Clone, Copy)]
-pub enum Decoded {
-    Is(Call),
-    Not(u32),
-}
-
-// The refusal's number is 0 where a setup is given; where it is not, the blank setup stands beside it.
+// An accepted setup as C is handed it: the number 0 beside it; or a refusal's number, and the blank setup beside that.
 #[repr(C)]
 #[derive(Clone, Copy)]
 pub struct GivenSetup {
@@ -182,7 +124,7 @@ pub struct GivenSetup {
     pub setup: Setup,
 }
 
-// The refusal's number is 0 where a store is given; where it is not, a store that fits no setup stands beside it.
+// A fresh store in the same way, in a type of its own, as C has no generics; beside a refusal's number stands a store that fits no setup.
 #[repr(C)]
 #[derive(Clone, Copy)]
 pub struct GivenStore {

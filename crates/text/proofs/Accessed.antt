@@ -8,15 +8,18 @@ use borrow.Author.Tests.{le-leb, lt-leb}
 use lib.ListN.{length, set, replicate}
 use Rattle.rules.specs.Sizes.{most_desks, most_classes, most_rights}
 use Rattle.rules.specs.Setups.{right_both}
-use Rattle.rules.specs.Refusals.{first_of}
+use Rattle.rules.specs.Refusals.{first_of, number_of}
+use Rattle.rules.specs.declared.refusal.Refusal.{Refusal}
+use Rattle.rules.specs.declared.refusal.Refusal.TheVariants.{NoSuchDesk, NoSuchClass, BreaksRules}
+use Rattle.std.specs.Prelude.{None, Some, Err}
 use Rattle.lines.specs.Shapes.{header, Access, access_line}
-use Rattle.lines.specs.Readings.{after_header, refused, breaks_rules, access_order, Text}
+use Rattle.lines.specs.Readings.{after_header, access_order, Text}
 use Rattle.lines.proofs.Shapes.{access_line_right}
-use Rattle.fields.specs.Cursor.{told, line_at}
-use Rattle.fields.proofs.Firsts.{told_some, told_none, line_found, line-within}
+use Rattle.fields.specs.Cursor.{line_at}
+use Rattle.fields.proofs.Firsts.{line_found}
 use Rattle.text.specs.ReadOn.{read_on}
-use Rattle.text.specs.Stages.{access_stage, AllInside, rights_of, AccessRead}
-use Rattle.text.proofs.ReadOn.{line_read, line_held}
+use Rattle.text.specs.Stages.{access_stage, AllInside, rights_of, AccessRead, fault, AccessEnd}
+use Rattle.text.proofs.ReadOn.{line_read, line_faulty, line_inside}
 use Rattle.text.proofs.Stages.{access_judged, access_ends}
 use Rattle.text.proofs.Tables.{place_of, least_after, place_rises, place_falls, rights_none, rights_more}
 
@@ -35,10 +38,14 @@ pub accessed_none : (desks classes : ℕ) (text : List ℕ) (at : ℕ) (rights :
 accessed_none desks classes text at rights l e =
     record { access = []; inside = tt; are = e ∙ rights_none; within = l; rising = refl; leads = λ t processes files. refl }
 
+-- a right that is read is none above both
+pub right_inside : (text : List ℕ) (at next : ℕ) (line : Access) → Some (next, line) ≡ line_at access_line text at → line.right ≤ right_both
+right_inside text at next line e = access_line_right _ line (line_found access_line text at (sym e)).reads
+
 module _ (desks classes : ℕ) (text : List ℕ) (at : ℕ) (rights : List ℕ) (from least : ℕ) (so_far : Accessed desks classes text at rights from least) where
   -- where the line at the cursor has not the shape of an access line, they are all read
-  pub accessed_all : (x : Access) (next : ℕ) → told next x ≡ line_at access_line text from → next ≡ 0 → AccessRead desks classes text at from rights
-  accessed_all x next e z =
+  pub accessed_all : None ≡ line_at access_line text from → AccessRead desks classes text at from rights
+  accessed_all e =
       record {
         access = so_far.access;
         inside = so_far.inside;
@@ -46,41 +53,28 @@ module _ (desks classes : ℕ) (text : List ℕ) (at : ℕ) (rights : List ℕ) 
         within = so_far.within;
         leads =
             λ t processes files.
-            so_far.leads t processes files
-            ∙ access_ends t text from (header desks classes processes files) so_far.access so_far.within (sym e ∙ told_none next x z);
+            so_far.leads t processes files ∙ access_ends t text from (header desks classes processes files) so_far.access so_far.within e;
       }
 
-  module _ (next : ℕ) (line : Access) (e : told next line ≡ line_at access_line text from) (n : next ≡ 0 → ⊥) where
-    -- a right that is read is none above both
-    pub accessed_right : line.right ≤ right_both
-    accessed_right = access_line_right _ line (line_found access_line text from (sym e ∙ told_some next line n)).reads
-
-    pub accessed_past : (from < next) × (next ≤ length text)
-    accessed_past = line-within access_line text from (sym e ∙ told_some next line n)
-
-    held : (r : ℕ) → (r ≡ 0 → ⊥) → first_of (access_order (access_stage (header desks classes 0 0) so_far.access) line) ≡ r
-        → (t : Text) (processes files : ℕ) → read_on t text at (after_header (header desks classes processes files)) ≡ refused r from
-    held r h z t processes files =
-        let k = header desks classes processes files in
+  module _ (next : ℕ) (line : Access) (e : Some (next, line) ≡ line_at access_line text from) where
+    held : (r : Refusal) → first_of (access_order (access_stage (header desks classes 0 0) so_far.access) line) ≡ number_of r
+        → AccessEnd desks classes text at (Err (fault r from)) rights
+    held r z t processes files =
         so_far.leads t processes files
-        ∙ line_held t text from (access_stage k so_far.access) access_line (access_order (access_stage k so_far.access))
-        (λ a. access_stage k (a ∷ so_far.access)) (access_judged t k so_far.access) next line (sym e ∙ told_some next line n) r h z
+        ∙ line_faulty text from (access_judged t (header desks classes processes files) so_far.access) next line e r z
 
     -- 3 before 4, and both before rising order
-    pub accessed_desk : desks ≤ line.desk
-        → (t : Text) (processes files : ℕ) → read_on t text at (after_header (header desks classes processes files)) ≡ refused 3 from
-    accessed_desk l = held 3 (omega arith) (rw (le-leb desks line.desk l))
+    pub accessed_desk : desks ≤ line.desk → AccessEnd desks classes text at (Err (fault NoSuchDesk from)) rights
+    accessed_desk l = held NoSuchDesk (rw (le-leb desks line.desk l))
 
     module _ (d : line.desk < desks) where
-      pub accessed_class : classes ≤ line.class
-          → (t : Text) (processes files : ℕ) → read_on t text at (after_header (header desks classes processes files)) ≡ refused 4 from
-      accessed_class l = held 4 (omega arith) (rw (lt-leb desks line.desk d, le-leb classes line.class l))
+      pub accessed_class : classes ≤ line.class → AccessEnd desks classes text at (Err (fault NoSuchClass from)) rights
+      accessed_class l = held NoSuchClass (rw (lt-leb desks line.desk d, le-leb classes line.class l))
 
       module _ (c : line.class < classes) (most : classes ≤ most_classes) where
-        pub accessed_order : place_of line < least
-            → (t : Text) (processes files : ℕ) → read_on t text at (after_header (header desks classes processes files)) ≡ refused breaks_rules from
+        pub accessed_order : place_of line < least → AccessEnd desks classes text at (Err (fault BreaksRules from)) rights
         accessed_order l =
-            held breaks_rules (omega arith)
+            held BreaksRules
             (rw (
               lt-leb desks line.desk d,
               lt-leb classes line.class c,
@@ -95,14 +89,12 @@ module _ (desks classes : ℕ) (text : List ℕ) (at : ℕ) (rights : List ℕ) 
               access = line ∷ so_far.access;
               inside = (d, c, so_far.inside);
               are = rw so_far.are (rights_more line so_far.access (omega arith) (omega arith));
-              within = accessed_past.1;
+              within = line_inside access_line text from next line e;
               rising = refl;
               leads =
                   λ t processes files.
-                  let h = header desks classes processes files in
                   so_far.leads t processes files
-                  ∙ line_read t text from (access_stage h so_far.access) access_line (access_order (access_stage h so_far.access))
-                  (λ a. access_stage h (a ∷ so_far.access)) (access_judged t h so_far.access) next line (sym e ∙ told_some next line n)
+                  ∙ line_read text from (access_judged t (header desks classes processes files) so_far.access) next line e
                   (rw (
                     lt-leb desks line.desk d,
                     lt-leb classes line.class c,

@@ -9,15 +9,16 @@ use lib.ListN.{length, length-append}
 use Rattle.rules.specs.Sizes.{most_calls}
 use Rattle.rules.specs.Calls.{call_width}
 use Rattle.rules.specs.declared.Numbers.{Numbers}
+use Rattle.rules.specs.declared.refusal.Refusal.TheVariants.{BreaksRules}
+use Rattle.std.specs.Prelude.{None, Some, Ok, Err}
 use Rattle.lists.specs.Writers.{with_calls}
 use Rattle.lists.proofs.Quads.{no_calls, calls_more, calls_in_front, with_calls-length}
 use Rattle.lines.specs.Shapes.{call_line}
-use Rattle.lines.specs.Readings.{SoFar, refused, breaks_rules, calls_so_far, after_calls, call_line_order, calls_follow}
+use Rattle.lines.specs.Readings.{SoFar, calls_so_far, after_calls, calls_follow}
 use Rattle.lines.proofs.Faults.{past_most_refused}
-use Rattle.fields.specs.Cursor.{told, line_at}
-use Rattle.fields.proofs.Firsts.{told_some, told_none, line-within}
+use Rattle.fields.specs.Cursor.{line_at}
 use Rattle.text.specs.ReadOn.{read_on}
-use Rattle.text.specs.Stages.{CallLinesRead}
+use Rattle.text.specs.Stages.{fault, CallsEnd}
 use Rattle.text.proofs.ReadOn.{judges_takes, shape_broken, line_read, all_refused, none_missing}
 use Rattle.text.proofs.Stages.{call_judged}
 
@@ -27,22 +28,21 @@ pub record Gathered (text : List ℕ) (at : ℕ) (was run : List ℕ) (from coun
   pub count_is : length calls ≡ count
   pub few : count ≤ most_calls
   pub are : run ≡ with_calls was 0 calls
-  pub within : from ≤ length text
   pub leads : (s : SoFar) → read_on calls_follow text at (after_calls s) ≡ read_on calls_follow text from (calls_so_far s calls)
 
-pub gathered_none : (text : List ℕ) (at : ℕ) (was : List ℕ) → at ≤ length text → Gathered text at was was at 0
-gathered_none text at was l =
-    record { calls = []; count_is = refl; few = omega arith; are = sym (no_calls was 0); within = l; leads = λ s. refl }
+pub gathered_none : (text : List ℕ) (at : ℕ) (was : List ℕ) → Gathered text at was was at 0
+gathered_none text at was =
+    record { calls = []; count_is = refl; few = omega arith; are = sym (no_calls was 0); leads = λ s. refl }
 
 module _ (text : List ℕ) (at : ℕ) (was run : List ℕ) (from count : ℕ) (so_far : Gathered text at was run from count) where
-  pub gathered_all : length text ≤ from → CallLinesRead text at count was run
+  pub gathered_all : length text ≤ from → CallsEnd text at (Ok count) was run
   gathered_all l =
       record {
         calls = so_far.calls;
         count_is = so_far.count_is;
         few = so_far.few;
         are = so_far.are ∙ calls_in_front was so_far.calls ∙ rw so_far.count_is;
-        leads = λ s. so_far.leads s ∙ none_missing calls_follow text from (calls_so_far s so_far.calls) (omega (arith, so_far.within)) refl;
+        leads = λ s. so_far.leads s ∙ none_missing calls_follow text from (calls_so_far s so_far.calls) l refl;
       }
 
   -- a run that has room for the most keeps its length
@@ -51,45 +51,34 @@ module _ (text : List ℕ) (at : ℕ) (was run : List ℕ) (from count : ℕ) (s
 
   module _ (l : from < length text) where
     -- "A call line past the 1,024th is 14"
-    pub gathered_past_most : most_calls ≤ count → (s : SoFar) → read_on calls_follow text at (after_calls s) ≡ refused breaks_rules from
+    pub gathered_past_most : most_calls ≤ count → CallsEnd text at (Err (fault BreaksRules from)) was run
     gathered_past_most m s =
         so_far.leads s
         ∙ all_refused calls_follow text from (calls_so_far s so_far.calls)
         (λ k. past_most_refused calls_follow (calls_so_far s so_far.calls) k refl (omega (arith, so_far.count_is))) l
 
-    module _ (next : ℕ) (n : Numbers) (e : told next n ≡ line_at call_line text from) where
-      pub gathered_broken : next ≡ 0 → (s : SoFar) → read_on calls_follow text at (after_calls s) ≡ refused breaks_rules from
-      gathered_broken z s =
-          so_far.leads s
-          ∙ shape_broken calls_follow text from (calls_so_far s so_far.calls) call_line (λ k. call_line_order (calls_so_far s so_far.calls))
-          (λ k. calls_so_far s (so_far.calls ++ (k ∷ []))) (call_judged s so_far.calls) so_far.within (sym e ∙ told_none next n z)
-          (λ q. absurd (omega arith))
+    pub gathered_broken : None ≡ line_at call_line text from → CallsEnd text at (Err (fault BreaksRules from)) was run
+    gathered_broken e s =
+        so_far.leads s ∙ shape_broken text from (call_judged s so_far.calls) (omega arith) e (λ q. absurd (omega arith))
 
-      module _ (p : next ≡ 0 → ⊥) where
-        pub gathered_past : (from < next) × (next ≤ length text)
-        gathered_past = line-within call_line text from (sym e ∙ told_some next n p)
-
-        -- one more line is read, and its call put after the others
-        pub gathered_more : most_calls * call_width ≤ length was → count < most_calls
-            → Gathered text at was (with_calls run count (n ∷ [])) next (count + 1)
-        gathered_more room m =
-            let calls = so_far.calls in
-            let fits : (0 + length calls) * call_width ≤ length was = omega (arith, so_far.count_is) in
-            let at-end : 0 + length calls ≡ count = omega (arith, so_far.count_is) in
-            record {
-              calls = calls ++ (n ∷ []);
-              count_is = omega (arith, length-append calls (n ∷ []), so_far.count_is);
-              few = omega arith;
-              are =
-                  ap (λ (r : List ℕ). with_calls r count (n ∷ [])) so_far.are
-                  ∙ ap (λ (k : ℕ). with_calls (with_calls was 0 calls) k (n ∷ [])) (sym at-end)
-                  ∙ calls_more was 0 calls fits (n ∷ []);
-              within = gathered_past.1;
-              leads =
-                  λ s.
-                  let next-stage : Numbers → SoFar = λ k. calls_so_far s (calls ++ (k ∷ [])) in
-                  so_far.leads s
-                  ∙ line_read calls_follow text from (calls_so_far s calls) call_line (λ k. call_line_order (calls_so_far s calls)) next-stage
-                  (judges_takes calls_follow text from (calls_so_far s calls) call_line (λ k. call_line_order (calls_so_far s calls)) next-stage (call_judged s calls))
-                  next n (sym e ∙ told_some next n p) (rw (so_far.count_is, lt-leb most_calls count m));
-            }
+  module _ (next : ℕ) (n : Numbers) (e : Some (next, n) ≡ line_at call_line text from) where
+    -- one more line is read, and its call put after the others
+    pub gathered_more : most_calls * call_width ≤ length was → count < most_calls
+        → Gathered text at was (with_calls run count (n ∷ [])) next (count + 1)
+    gathered_more room m =
+        let calls = so_far.calls in
+        let fits : (0 + length calls) * call_width ≤ length was = omega (arith, so_far.count_is) in
+        let at-end : 0 + length calls ≡ count = omega (arith, so_far.count_is) in
+        record {
+          calls = calls ++ (n ∷ []);
+          count_is = omega (arith, length-append calls (n ∷ []), so_far.count_is);
+          few = omega arith;
+          are =
+              ap (λ (r : List ℕ). with_calls r count (n ∷ [])) so_far.are
+              ∙ ap (λ (k : ℕ). with_calls (with_calls was 0 calls) k (n ∷ [])) (sym at-end)
+              ∙ calls_more was 0 calls fits (n ∷ []);
+          leads =
+              λ s.
+              so_far.leads s
+              ∙ line_read text from (judges_takes (call_judged s calls)) next n e (rw (so_far.count_is, lt-leb most_calls count m));
+        }

@@ -5,13 +5,12 @@ use mathlib.Core.Path.{◌≡◌, refl, ap, sym, ◌∙◌}
 use mathlib.Core.Bool.{true, false}
 use mathlib.Core.List.{List, [], ◌∷◌, ◌++◌}
 use native.Mathlib.Omega.{arith}
-use native.Mathlib.Nat.{mul-le-mul_right, zero-add}
-use native.Mathlib.Numerals.{add-one}
+use native.Mathlib.Nat.{mul-le-mul_right}
 use borrow.Author.Tests.{ltb-true, ltb-false, lt-ltb, le-ltb, eqb-true, eqb-false, eq-eqb, ne_eqb}
 use lib.Arith.{digits_lt, digits_div, digits_mod}
 use lib.Dec.{ltb, eqb}
-use lib.ListN.{length, get_or, set, take, drop, replicate, length-append, length-drop, length-set, length-replicate, get_or-replicate, get_or-append, get_or-eq_default}
-use lib.Seq.{get_or-set_same, get_or-set_other, get_or-append-add, get_or-drop, paste-suc}
+use lib.ListN.{length, get_or, set, drop, replicate, length-append, length-drop, length-set, length-replicate, get_or-replicate, get_or-append, get_or-eq_default}
+use lib.Seq.{get_or-set_same, get_or-set_other, get_or-append-add, get_or-drop}
 use Rattle.rules.specs.Sizes.{most_desks, most_classes, most_rights, table}
 use Rattle.rules.specs.Setups.{given_right, given_rights}
 use Rattle.rules.proofs.Lists.{by_test, cond_holds, get_or-alike}
@@ -50,10 +49,6 @@ module _ (desks classes : ℕ) (k : classes ≤ most_classes) (a : Access) (l : 
 pub rights_none : replicate most_rights 0 ≡ rights_of []
 unfolding rights_of right_read
 rights_none = table_is most_rights (λ i. 0) (replicate most_rights 0) 0 (length-replicate {A = ℕ} most_rights 0) (λ i l. get_or-replicate most_rights i 0 0 l)
-
-pub rights_length : (access : List Access) → length (rights_of access) ≡ most_rights
-unfolding rights_of
-rights_length access = length-table most_rights _
 
 -- one more line sets the right at its place
 right_at_place : (a : Access) (access : List Access) (i : ℕ) → a.class < most_classes → i ≡ place_of a
@@ -137,8 +132,3 @@ entries_table n entries l =
     let past : i ≡ length entries + (i - length entries) = omega arith in
     ap (λ (j : ℕ). get_or (entries ++ rest) j 0) past ∙ get_or-append-add entries rest (i - length entries) 0
     ∙ get_or-drop (length entries) (replicate n 0) (i - length entries) 0 ∙ get_or-alike n _ 0 ∙ sym (get_or-eq_default entries 0 g)))
-
--- numbers copied one by one to the front of a run
-pub front_copied : (onto numbers : List ℕ) (i : ℕ) → i < length onto → i < length numbers
-    → set (take i numbers ++ drop i onto) i (get_or numbers i 0) ≡ take (i + 1) numbers ++ drop (i + 1) onto
-front_copied onto numbers i l m = rw add-one (simp zero-add at (paste-suc onto 0 numbers i 0 (rw zero-add l) m))

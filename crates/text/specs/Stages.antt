@@ -1,15 +1,23 @@
 -- How each kind of a text's lines ends: sound as far as a cursor, with what they give; or refused, with the faulty line's offset.
-use Rattle.std.specs.Prelude.{ℕ, ◌*◌, ◌/◌, ◌%◌, ◌<◌, ◌≤◌, ◌≡◌, false, not, List, [], ◌∷◌, ◌++◌, leb, length, get_or, drop}
+use Rattle.std.specs.Prelude.{ℕ, ◌*◌, ◌/◌, ◌%◌, ◌<◌, ◌≤◌, ◌≡◌, false, not, List, [], ◌∷◌, ◌++◌, leb, length, get_or, drop, Result, Ok, Err}
 use Rattle.rules.specs.Sizes.{most_classes, most_rights, table, most_calls}
-use Rattle.rules.specs.Setups.{setup_from, blank_setup}
+use Rattle.rules.specs.Setups.{setup_from}
 use Rattle.rules.specs.Calls.{call_width, in_quads}
-use Rattle.rules.specs.Refusals.{Refusal, ◌gives◌}
-use Rattle.rules.specs.Entries.{unless}
+use Rattle.rules.specs.Refusals.{Ground, ◌gives◌, number_of}
 use Rattle.rules.specs.declared.Numbers.{Numbers}
+use Rattle.rules.specs.declared.refusal.Refusal.{Refusal}
 use Rattle.rules.specs.declared.Setup.{Setup}
 use Rattle.lines.specs.Shapes.{the_word, a_number, Shape, read_as, Header, header, Access}
-use Rattle.lines.specs.Readings.{process_due, calls_due, SoFar, after_header, set_due, set_access, desks_so_far, classes_so_far, calls_so_far, after_calls, sound, refused, judged, refusal14, is_next, Text, calls_follow, judge_due, complete, read_text, right_read, bytes_read}
+use Rattle.lines.specs.declared.Fault.{Fault}
+use Rattle.lines.specs.Readings.{process_due, calls_due, SoFar, Reached, after_header, set_due, set_access, desks_so_far, classes_so_far, calls_so_far, after_calls, sound, refused, judged, refusal14, is_next, Text, calls_follow, judge_due, complete, read_text, right_read, bytes_read}
 use Rattle.text.specs.ReadOn.{read_on}
+
+-- a line is faulty with a refusal, at its offset; and a text that is refused for that
+abbrev pub fault : Refusal → ℕ → Fault
+fault refusal at = record { refusal = refusal; at = at }
+
+abbrev pub refused_for : Fault → Reached
+refused_for fault = refused (number_of fault.refusal) fault.at
 
 -- after the header and access lines, the last first
 abbrev pub access_stage : Header → List Access → SoFar
@@ -41,11 +49,10 @@ pub record AccessRead (desks classes : ℕ) (text : List ℕ) (at end : ℕ) (ri
   pub leads : (t : Text) (processes files : ℕ)
       → (let h = header desks classes processes files in read_on t text at (after_header h) ≡ read_on t text end (set_due (access_stage h access) process_due))
 
-abbrev pub AccessEnd : ℕ → ℕ → List ℕ → ℕ → ℕ → ℕ → List ℕ → Type 0
-AccessEnd desks classes text at refusal end rights =
-    unless refusal
-    (AccessRead desks classes text at end rights)
-    ((t : Text) (processes files : ℕ) → read_on t text at (after_header (header desks classes processes files)) ≡ refused refusal end)
+abbrev pub AccessEnd : ℕ → ℕ → List ℕ → ℕ → Result ℕ Fault → List ℕ → Type 0
+AccessEnd desks classes text at (Ok end) rights = AccessRead desks classes text at end rights
+AccessEnd desks classes text at (Err fault) rights =
+    (t : Text) (processes files : ℕ) → read_on t text at (after_header (header desks classes processes files)) ≡ refused_for fault
 
 -- an entry is a byte
 abbrev pub most_entry : ℕ
@@ -56,7 +63,7 @@ abbrev pub entry_shape : List ℕ → Shape
 entry_shape word = the_word word ∷ a_number ∷ a_number ∷ []
 
 -- what is held against such a line: its second number is the bound or more; its first is not the next
-abbrev pub entry_order : ℕ → ℕ → List ℕ → List ℕ → List Refusal
+abbrev pub entry_order : ℕ → ℕ → List ℕ → List ℕ → List Ground
 entry_order bound refusal entries ns =
     (leb bound (get_or ns 1 0) gives refusal) ∷ refusal14 (not (is_next entries (get_or ns 0 0))) ∷ []
 
@@ -77,11 +84,10 @@ pub record EntriesRead (text : List ℕ) (at : ℕ) (word : List ℕ) (bound ref
   pub within : end ≤ length text
   pub leads : ForEntries word bound refusal count (λ t stage. read_on t text at (stage []) ≡ read_on t text end (stage entries))
 
-abbrev pub EntriesEnd : List ℕ → ℕ → List ℕ → ℕ → ℕ → ℕ → ℕ → ℕ → List ℕ → Type 0
-EntriesEnd text at word bound refusal count given end entries =
-    unless given
-    (EntriesRead text at word bound refusal count end entries)
-    (ForEntries word bound refusal count (λ t stage. read_on t text at (stage []) ≡ refused given end))
+abbrev pub EntriesEnd : List ℕ → ℕ → List ℕ → ℕ → ℕ → ℕ → Result ℕ Fault → List ℕ → Type 0
+EntriesEnd text at word bound refusal count (Ok end) entries = EntriesRead text at word bound refusal count end entries
+EntriesEnd text at word bound refusal count (Err fault) entries =
+    ForEntries word bound refusal count (λ t stage. read_on t text at (stage []) ≡ refused_for fault)
 
 -- a setup's lines that are sound as far as a cursor, with the setup that they give
 pub record SetupLines (t : Text) (text : List ℕ) (end : ℕ) (setup : Setup) : Type 0 where
@@ -92,19 +98,19 @@ pub record SetupLines (t : Text) (text : List ℕ) (end : ℕ) (setup : Setup) :
   pub is : setup ≡ setup_from (bytes_read so_far)
   pub within : end ≤ length text
 
--- or they are refused, with the blank setup
-abbrev pub SetupEnd : Text → List ℕ → ℕ → ℕ → Setup → Type 0
-SetupEnd t text refusal end setup =
-    unless refusal (SetupLines t text end setup) ((read_text t text ≡ refused refusal end) × (setup ≡ blank_setup))
+-- or they are refused
+abbrev pub SetupEnd : Text → List ℕ → Result (ℕ × Setup) Fault → Type 0
+SetupEnd t text (Ok read) = SetupLines t text read.0 read.1
+SetupEnd t text (Err fault) = read_text t text ≡ refused_for fault
 
 -- the same of the lines after a header that is sound, and after access lines that are
-abbrev pub SetupEndAfterHeader : List ℕ → ℕ → Header → ℕ → ℕ → Setup → Type 0
-SetupEndAfterHeader text at h refusal end setup = (t : Text) → read_text t text ≡ read_on t text at (after_header h) → SetupEnd t text refusal end setup
+abbrev pub SetupEndAfterHeader : List ℕ → ℕ → Header → Result (ℕ × Setup) Fault → Type 0
+SetupEndAfterHeader text at h result = (t : Text) → read_text t text ≡ read_on t text at (after_header h) → SetupEnd t text result
 
-abbrev pub SetupEndAfterAccess : List ℕ → ℕ → Header → List ℕ → ℕ → ℕ → Setup → Type 0
-SetupEndAfterAccess text at h rights refusal end setup =
+abbrev pub SetupEndAfterAccess : List ℕ → ℕ → Header → List ℕ → Result (ℕ × Setup) Fault → Type 0
+SetupEndAfterAccess text at h rights result =
     (t : Text) (access : List Access) → AllInside h.desks h.classes access → rights ≡ rights_of access
-    → read_text t text ≡ read_on t text at (set_due (access_stage h access) process_due) → SetupEnd t text refusal end setup
+    → read_text t text ≡ read_on t text at (set_due (access_stage h access) process_due) → SetupEnd t text result
 
 -- call lines that are sound to the end of the text, at the front of a run
 pub record CallLinesRead (text : List ℕ) (at count : ℕ) (was run : List ℕ) : Type 0 where
@@ -114,8 +120,6 @@ pub record CallLinesRead (text : List ℕ) (at count : ℕ) (was run : List ℕ)
   pub are : run ≡ in_quads calls ++ drop (count * call_width) was
   pub leads : (s : SoFar) → read_on calls_follow text at (after_calls s) ≡ sound (calls_so_far s calls)
 
-abbrev pub CallsEnd : List ℕ → ℕ → ℕ → ℕ → ℕ → List ℕ → List ℕ → Type 0
-CallsEnd text at refusal end count was run =
-    unless refusal
-    (CallLinesRead text at count was run)
-    ((s : SoFar) → read_on calls_follow text at (after_calls s) ≡ refused refusal end)
+abbrev pub CallsEnd : List ℕ → ℕ → Result ℕ Fault → List ℕ → List ℕ → Type 0
+CallsEnd text at (Ok count) was run = CallLinesRead text at count was run
+CallsEnd text at (Err fault) was run = (s : SoFar) → read_on calls_follow text at (after_calls s) ≡ refused_for fault

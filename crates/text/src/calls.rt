@@ -4,42 +4,30 @@ ghost use Rattle.rules.specs.Sizes.{most_calls};
 ghost use Rattle.rules.specs.Calls.{call_width};
 ghost use Rattle.text.specs.Stages.{CallsEnd};
 
-use crate::CallSpan;
+use crate::fault;
 use fields::shapes::call_at;
+use lines::Fault;
 use lists::writing::put_call;
-use rules::{BREAKS_RULES, CALLS};
+use rules::{CALLS, Refusal};
 
-// The call lines to the end of the text, as numbers at the front of a run that has room for the most.
-pub fn call_lines(text: &[u8], start: usize, calls: &mut [u32]) -> CallSpan
-    requires { (start ≤ length text.now) × (most_calls * call_width ≤ length calls.old) }
-    ensures { CallsEnd text.now start result.refusal result.at result.count calls.old calls.new }
+// The call lines to the end of the text, as numbers at the front of a run that has room for the most; their number is handed out.
+#[tactic(auto, using(crate::proofs::Gathered::gathered_none, crate::proofs::ReadOn::line_past, crate::proofs::Gathered::gathered_more))]
+pub fn call_lines(text: &[u8], start: usize, calls: &mut [u32]) -> Result<usize, Fault>
+    requires { most_calls * call_width ≤ length calls.old }
+    ensures { CallsEnd text.now start result calls.old calls.new }
 {
     let mut at = start;
+    // Counted by hand: each line says where the next begins, and the text's end stops the loop; a `for` over the places of calls would have to
+    // look for it once more after them.
     let mut count = 0;
     while at < text.len() {
         if CALLS <= count {
-            return CallSpan {
-                refusal: BREAKS_RULES,
-                at,
-                count: 0,
-            };
+            return Err(fault(Refusal::BreaksRules, at));
         }
-        let line = call_at(text, at);
-        if line.next == 0 {
-            return CallSpan {
-                refusal: BREAKS_RULES,
-                at,
-                count: 0,
-            };
-        }
-        let numbers = line.numbers;
+        let (next, numbers) = call_at(text, at).ok_or(fault(Refusal::BreaksRules, at))?;
         put_call(calls, count, numbers);
-        at = line.next;
+        at = next;
         count += 1;
     }
-    CallSpan {
-        refusal: 0,
-        at,
-        count,
-    }
+    Ok(count)
 }

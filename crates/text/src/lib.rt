@@ -5,27 +5,14 @@ mod calls;
 pub mod reading;
 mod setups;
 
-use rules::Setup;
+ghost use Rattle.std.specs.Prelude.{◌≡◌};
+ghost use Rattle.text.specs.Stages.{fault};
 
-// How far lines were read: the refusal's number, and the offset of the faulty line; or 0, and the cursor after them.
-#[derive(Clone, Copy)]
-pub struct Span {
-    pub refusal: u32,
-    pub at: usize,
-}
+use lines::Fault;
+use rules::Refusal;
 
-// The same of a setup's lines, with the setup; beside a refusal the blank one stands.
-#[derive(Clone, Copy)]
-pub struct SetupRead {
-    pub refusal: u32,
-    pub at: usize,
-    pub setup: Setup,
-}
-
-// The same of call lines, with the number of the calls.
-#[derive(Clone, Copy)]
-pub struct CallSpan {
-    pub refusal: u32,
-    pub at: usize,
-    pub count: usize,
+fn fault(refusal: Refusal, at: usize) -> Fault
+    ensures { result ≡ fault refusal at }
+{
+    Fault { refusal, at }
 }

@@ -1,4 +1,5 @@
 -- The one claim over the twelve sheets of trial, and the laws by which the program's checks follow from it.
 pub mod Twelve
-pub mod Alike
+pub mod Answered
+pub mod Unrefused
 pub mod Told

@@ -1,6 +1,5 @@
 -- 01, "Twelve sheets of trial", with what 02, Req 02 changes of them: the cases as one table, and what it means that a case comes out.
-use Rattle.std.specs.Prelude.{ℕ, ◌+◌, ◌≡◌, List, [], ◌∷◌, ◌++◌, length, drop, replicate}
-use Rattle.std.proofs.Math.Option.{Option, none, some}
+use Rattle.std.specs.Prelude.{ℕ, ◌+◌, ◌≡◌, List, [], ◌∷◌, ◌++◌, length, drop, replicate, Option, Some, None, Result, Ok, Err}
 use Rattle.rules.specs.Sizes.{most_number}
 use Rattle.rules.specs.Setups.{SetupBytes, setup_bytes}
 use Rattle.rules.specs.Stores.{blank_content, put_holder, put_content, put_mark, fresh_store}
@@ -12,9 +11,8 @@ use Rattle.rules.specs.declared.Store.{Store}
 use Rattle.views.specs.Case8.{setup8}
 use Rattle.lists.specs.Lists.{listed}
 use Rattle.lists.specs.Lists as lists
-use Rattle.lists.specs.declared.ListAnswer.TheVariants.{Ran}
 use Rattle.demand.specs.Routes.{read_call, write_call, lock_call, unlock_call, open_call, copy_call}
-use Rattle.routes.specs.Reports.{most_route_numbers, routed, route_numbers_of}
+use Rattle.routes.specs.Reports.{most_route_numbers, routed}
 use Rattle.routes.specs.Reports as routes
 
 -- "Setup Q: 3 desks, 2 classes, 3 processes, 2 files; process n sits at desk n, file n has class n; rights 0/0 W, 1/0 R, 1/1 W, 2/1 R."
@@ -35,58 +33,59 @@ testlock_call p f = numbers code_of_testlock p f 0
 pub data Case : Type 0 where
   -- from a store a list of calls: the pair of each call's answer, and the store that is left where 01 names it
   calls : SetupBytes → Store → List Numbers → List (ℕ × ℕ) → Option Store → Case
-  -- from a desk to a desk a route, with room for so many numbers: the answer's pair, and the numbers of the list that is written
-  route : SetupBytes → ℕ → ℕ → ℕ → ℕ × ℕ → List ℕ → Case
+  -- from a desk to a desk a route, with room for so many numbers: the number of calls, none for no route, or the refusal's number; and the
+  -- numbers of the list that is written
+  route : SetupBytes → ℕ → ℕ → ℕ → Result (Option ℕ) ℕ → List ℕ → Case
 
 -- 1: "Q, fresh, process 1 opens and reads file 0"; "Cases 1 and 2 now end in "nothing""
 abbrev pub case1 : Case
-case1 = calls setup_q fresh_store (open_call 1 0 ∷ read_call 1 0 ∷ []) ((0, 0) ∷ (0, 0) ∷ []) none
+case1 = calls setup_q fresh_store (open_call 1 0 ∷ read_call 1 0 ∷ []) ((0, 0) ∷ (0, 0) ∷ []) None
 
 -- 2: "Q, process 0 writes 5 without a lock; process 1 opens, reads"; it ends so too
 abbrev pub case2 : Case
-case2 = calls setup_q fresh_store (write_call 0 0 5 ∷ open_call 1 0 ∷ read_call 1 0 ∷ []) ((0, 0) ∷ (0, 0) ∷ (0, 0) ∷ []) none
+case2 = calls setup_q fresh_store (write_call 0 0 5 ∷ open_call 1 0 ∷ read_call 1 0 ∷ []) ((0, 0) ∷ (0, 0) ∷ (0, 0) ∷ []) None
 
 -- 3: "Q, process 0 TESTLOCK of file 0 after its LOCK: nothing (no R)."
 abbrev pub case3 : Case
-case3 = calls setup_q fresh_store (lock_call 0 0 ∷ testlock_call 0 0 ∷ []) ((0, 0) ∷ (0, 0) ∷ []) none
+case3 = calls setup_q fresh_store (lock_call 0 0 ∷ testlock_call 0 0 ∷ []) ((0, 0) ∷ (0, 0) ∷ []) None
 
 -- 4: "Q, process 3 reads: refusal 6. Process 2 reads file 1 unopened: nothing."
 abbrev pub case4a : Case
-case4a = calls setup_q fresh_store (read_call 3 0 ∷ []) ((4, 6) ∷ []) none
+case4a = calls setup_q fresh_store (read_call 3 0 ∷ []) ((4, 6) ∷ []) None
 
 abbrev pub case4b : Case
-case4b = calls setup_q fresh_store (read_call 2 1 ∷ []) ((0, 0) ∷ []) none
+case4b = calls setup_q fresh_store (read_call 2 1 ∷ []) ((0, 0) ∷ []) None
 
 -- 5: "Q, operation 9 by process 9: refusal 5."
 abbrev pub case5 : Case
-case5 = calls setup_q fresh_store (numbers 9 9 0 0 ∷ []) ((4, 5) ∷ []) none
+case5 = calls setup_q fresh_store (numbers 9 9 0 0 ∷ []) ((4, 5) ∷ []) None
 
 -- 6: "Q, process 1 opens file 0, process 0 locks it, process 1 reads: nothing."
 abbrev pub case6 : Case
-case6 = calls setup_q fresh_store (open_call 1 0 ∷ lock_call 0 0 ∷ read_call 1 0 ∷ []) ((0, 0) ∷ (0, 0) ∷ (0, 0) ∷ []) none
+case6 = calls setup_q fresh_store (open_call 1 0 ∷ lock_call 0 0 ∷ read_call 1 0 ∷ []) ((0, 0) ∷ (0, 0) ∷ (0, 0) ∷ []) None
 
 -- 7: "Case 6, then UNLOCK by process 0 and READ again", with "a WRITE of 6 before its UNLOCK": "figure 6", "with no second OPEN"
 abbrev pub case7 : Case
 case7 =
     calls setup_q fresh_store (open_call 1 0 ∷ lock_call 0 0 ∷ read_call 1 0 ∷ write_call 0 0 6 ∷ unlock_call 0 0 ∷ read_call 1 0 ∷ [])
-    ((0, 0) ∷ (0, 0) ∷ (0, 0) ∷ (0, 0) ∷ (0, 0) ∷ (1, 6) ∷ []) none
+    ((0, 0) ∷ (0, 0) ∷ (0, 0) ∷ (0, 0) ∷ (0, 0) ∷ (1, 6) ∷ []) None
 
 -- 8: "Process 0 opens, process 1 locks and tests: yes."
 abbrev pub case8a : Case
-case8a = calls setup8 fresh_store (open_call 0 0 ∷ lock_call 1 0 ∷ testlock_call 1 0 ∷ []) ((0, 0) ∷ (0, 0) ∷ (2, 0) ∷ []) none
+case8a = calls setup8 fresh_store (open_call 0 0 ∷ lock_call 1 0 ∷ testlock_call 1 0 ∷ []) ((0, 0) ∷ (0, 0) ∷ (2, 0) ∷ []) None
 
 -- the same without desk 0's call: yes here too, where by 000's LOCK the two would differ
 abbrev pub case8b : Case
-case8b = calls setup8 fresh_store (lock_call 1 0 ∷ testlock_call 1 0 ∷ []) ((0, 0) ∷ (2, 0) ∷ []) none
+case8b = calls setup8 fresh_store (lock_call 1 0 ∷ testlock_call 1 0 ∷ []) ((0, 0) ∷ (2, 0) ∷ []) None
 
 -- "though no link runs from desk 0": so there is no route to desk 1
 abbrev pub case8c : Case
-case8c = route setup8 0 1 244 (0, 0) []
+case8c = route setup8 0 1 244 (Ok None) []
 
 -- 9: "Q, route 0 to 2: 9 calls, the program case below."
 abbrev pub case9a : Case
 case9a =
-    route setup_q 0 2 244 (1, 9)
+    route setup_q 0 2 244 (Ok (Some 9))
     (3 ∷ 0 ∷ 0 ∷ 0 ∷
     2 ∷ 0 ∷ 0 ∷ 1 ∷
     4 ∷ 0 ∷ 0 ∷ 0 ∷
@@ -103,19 +102,19 @@ case9b =
     calls setup_q fresh_store
     (lock_call 0 0 ∷ write_call 0 0 1 ∷ unlock_call 0 0 ∷ open_call 1 0 ∷ lock_call 1 1 ∷ copy_call 1 0 1 ∷ unlock_call 1 1 ∷ open_call 2 1
     ∷ read_call 2 1 ∷ [])
-    ((0, 0) ∷ (0, 0) ∷ (0, 0) ∷ (0, 0) ∷ (0, 0) ∷ (0, 0) ∷ (0, 0) ∷ (0, 0) ∷ (1, 1) ∷ []) none
+    ((0, 0) ∷ (0, 0) ∷ (0, 0) ∷ (0, 0) ∷ (0, 0) ∷ (0, 0) ∷ (0, 0) ∷ (0, 0) ∷ (1, 1) ∷ []) None
 
 -- "the program case without its first three calls": the last line is `5`, `nothing`
 abbrev pub case9c : Case
 case9c =
     calls setup_q fresh_store
     (open_call 1 0 ∷ lock_call 1 1 ∷ copy_call 1 0 1 ∷ unlock_call 1 1 ∷ open_call 2 1 ∷ read_call 2 1 ∷ [])
-    ((0, 0) ∷ (0, 0) ∷ (0, 0) ∷ (0, 0) ∷ (0, 0) ∷ (0, 0) ∷ []) none
+    ((0, 0) ∷ (0, 0) ∷ (0, 0) ∷ (0, 0) ∷ (0, 0) ∷ (0, 0) ∷ []) None
 
 -- 10: "Q, route 0 to 1: 5 calls. Route 2 to 0: none."
 abbrev pub case10a : Case
 case10a =
-    route setup_q 0 1 244 (1, 5)
+    route setup_q 0 1 244 (Ok (Some 5))
     (3 ∷ 0 ∷ 0 ∷ 0 ∷
     2 ∷ 0 ∷ 0 ∷ 1 ∷
     4 ∷ 0 ∷ 0 ∷ 0 ∷
@@ -123,24 +122,24 @@ case10a =
     1 ∷ 1 ∷ 0 ∷ 0 ∷ [])
 
 abbrev pub case10b : Case
-case10b = route setup_q 2 0 244 (0, 0) []
+case10b = route setup_q 2 0 244 (Ok None) []
 
 -- 11: "Q, route 1 to 1: refusal 13. With room 243, route 0 to 2: refusal 11."
 abbrev pub case11a : Case
-case11a = route setup_q 1 1 244 (4, 13) []
+case11a = route setup_q 1 1 244 (Err 13) []
 
 abbrev pub case11b : Case
-case11b = route setup_q 0 2 243 (4, 11) []
+case11b = route setup_q 0 2 243 (Err 11) []
 
 -- 12: "An empty list gives no answers and the same store."
 abbrev pub case12 : Case
-case12 = calls setup_q in_use [] [] (some in_use)
+case12 = calls setup_q in_use [] [] (Some in_use)
 
 -- beside 4 and 6, on a written file: of an unwritten one READ answers "nothing" whatever its lock and its open mark are
 abbrev pub case_written : Case
 case_written =
     calls setup_q in_use (read_call 1 0 ∷ unlock_call 0 0 ∷ read_call 1 0 ∷ close_call 1 0 ∷ read_call 1 0 ∷ [])
-    ((0, 0) ∷ (0, 0) ∷ (1, 5) ∷ (0, 0) ∷ (0, 0) ∷ []) none
+    ((0, 0) ∷ (0, 0) ∷ (1, 5) ∷ (0, 0) ∷ (0, 0) ∷ []) None
 
 -- answers as numbers, two each
 unfoldable pub in_pairs : List (ℕ × ℕ) → List ℕ
@@ -165,22 +164,22 @@ written_into front room = front ++ drop (length front) room
 -- the list is run, and the room holds its answers
 unfoldable pub Answers : Setup → Store → List ℕ → List ℕ → Type 0
 Answers s m list answers =
-    ((listed s m list answers_room).answer ≡ Ran (calls_in list))
+    ((listed s m list answers_room).0 ≡ Ok (calls_in list))
     × (lists.answers_after s m list answers_room ≡ written_into answers answers_room)
 
 -- the list leaves the store
 unfoldable pub Leaves : Setup → Store → List ℕ → Store → Type 0
-Leaves s m list left = (listed s m list answers_room).store ≡ left
+Leaves s m list left = (listed s m list answers_room).1 ≡ left
 
 -- the report answers, and the room holds its list
-unfoldable pub Reports : Setup → ℕ → ℕ → ℕ → ℕ × ℕ → List ℕ → Type 0
+unfoldable pub Reports : Setup → ℕ → ℕ → ℕ → Result (Option ℕ) ℕ → List ℕ → Type 0
 Reports s a b n answer list =
-    (route_numbers_of (routed s a b n) ≡ answer) × (routes.room_after s a b (room_of n) ≡ written_into list (room_of n))
+    (routed s a b n ≡ answer) × (routes.room_after s a b (room_of n) ≡ written_into list (room_of n))
 
 -- the case comes out so
 abbrev pub ComesOut : Case → Type 0
-ComesOut (calls setup m list answers none) = Answers (acceptance setup).setup m (in_quads list) (in_pairs answers)
-ComesOut (calls setup m list answers (some left)) =
+ComesOut (calls setup m list answers None) = Answers (acceptance setup).setup m (in_quads list) (in_pairs answers)
+ComesOut (calls setup m list answers (Some left)) =
     Answers (acceptance setup).setup m (in_quads list) (in_pairs answers) × Leaves (acceptance setup).setup m (in_quads list) left
 ComesOut (route setup a b n answer list) = Reports (acceptance setup).setup a b n answer list
 

@@ -1,140 +1,76 @@
 // What a case's check compares: what an entry answers and leaves, and what is to come out.
-ghost use Rattle.std.specs.Prelude.{◌≡◌, true, ◌&&◌, ◌↔◌, ◌≤◌, eqb, length, get_or};
-ghost use Rattle.lists.specs.declared.ListAnswer.TheVariants.{Ran};
-ghost use Rattle.routes.specs.Reports.{most_route_numbers, route_numbers_of};
-ghost use Rattle.trial.specs.Trials.{untouched, room_of, written_into, Answers, Leaves, Reports};
+ghost use Rattle.std.specs.Prelude.{◌≡◌, true, ◌↔◌, ◌≤◌, ◌==◌, length};
+ghost use Rattle.std.specs.List.{list_all};
+ghost use Rattle.rules.specs.Refusals.{numbered};
+ghost use Rattle.lists.specs.Lists.{listed};
+ghost use Rattle.routes.specs.Reports.{most_route_numbers};
+ghost use Rattle.trial.specs.Trials.{untouched, room_of, answers_room, written_into, Answers, Leaves, Reports};
 
-use lists::ListAnswer;
+use crate::starting::Start;
 use lists::running::run;
+use routes::ROUTE_NUMBERS;
 use routes::report::report;
-use routes::{ROUTE_NUMBERS, RouteAnswer};
-use rules::{CALL_WIDTH, Cell, FILES, KIND_NO_ROUTE, KIND_REFUSED, KIND_ROUTE, Setup, Store};
+use rules::{CALL_WIDTH, Refusal, Store};
 
 // What a lent room holds before it is written to.
-pub const UNTOUCHED: u32 = 4294967295;
+const UNTOUCHED: u32 = u32::MAX;
 
-// The front's number at a place, and past its end what the room held before.
-fn front_at(front: &[u32], i: usize) -> u32
-    ensures { result ≡ get_or front.now i untouched }
+fn is_untouched(room: &[u32]) -> bool
+    ensures { result ≡ list_all (λ n. n == untouched) room.now }
 {
-    if i < front.len() { front[i] } else { UNTOUCHED }
+    room.iter().all(|n| *n == UNTOUCHED)
 }
 
 // Whether the front is written into the room, and nothing past it.
 fn holds(room: &[u32], front: &[u32]) -> bool
     ensures { (result ≡ true) ↔ (room.now ≡ written_into front.now (room_of (length room.now))) }
 {
-    if room.len() < front.len() {
-        return false;
+    room.strip_prefix(front).is_some_and(is_untouched)
+}
+
+impl Start {
+    // Whether the list is run and answers so.
+    pub fn answers(&self, calls: &[u32], expected: &[u32]) -> bool
+        ensures { (result ≡ true) ↔ Answers self.now.setup self.now.store calls.now expected.now }
+    {
+        let mut room = [UNTOUCHED; ROUTE_NUMBERS];
+        let listed = run(self.setup, self.store, calls, &mut room);
+        let ran = listed
+            .answer
+            .is_ok_and(|n| n as usize == calls.len() / CALL_WIDTH);
+        ran & holds(&room, expected)
     }
-    let mut i = 0;
-    while i < room.len() {
-        if room[i] != front_at(front, i) {
-            return false;
-        }
-        i += 1;
+
+    // The store that the list leaves.
+    pub fn left_by(&self, calls: &[u32]) -> Store
+        ensures { result ≡ (listed self.now.setup self.now.store calls.now answers_room).1 }
+    {
+        let mut room = [UNTOUCHED; ROUTE_NUMBERS];
+        run(self.setup, self.store, calls, &mut room).store
     }
-    true
-}
 
-fn has_run(answer: ListAnswer, calls: usize) -> bool
-    ensures { (result ≡ true) ↔ (answer ≡ Ran calls) }
-{
-    match answer {
-        ListAnswer::Ran(n) => n as usize == calls,
-        ListAnswer::Stopped(_) => false,
+    // Whether the list leaves that store.
+    pub fn leaves(&self, calls: &[u32], left: Store) -> bool
+        ensures { (result ≡ true) ↔ Leaves self.now.setup self.now.store calls.now left }
+    {
+        self.left_by(calls) == left
     }
-}
 
-// Whether the list is run from the store and answers so.
-pub fn answers(setup: Setup, store: Store, calls: &[u32], expected: &[u32]) -> bool
-    ensures { (result ≡ true) ↔ Answers setup store calls.now expected.now }
-{
-    let mut room = [UNTOUCHED; ROUTE_NUMBERS];
-    let listed = run(setup, store, calls, &mut room);
-    let answer = listed.answer;
-    has_run(answer, calls.len() / CALL_WIDTH) & holds(&room, expected)
-}
-
-fn route_kind(answer: RouteAnswer) -> u32
-    ensures { result ≡ (route_numbers_of answer).0 }
-{
-    match answer {
-        RouteAnswer::NoRoute => KIND_NO_ROUTE,
-        RouteAnswer::Route(_) => KIND_ROUTE,
-        RouteAnswer::Refused(_) => KIND_REFUSED,
+    // Whether the report, lent an untouched room for n numbers, answers so and writes the list.
+    pub fn reports(
+        &self,
+        a: u32,
+        b: u32,
+        n: usize,
+        expected: Result<Option<u32>, Refusal>,
+        list: &[u32],
+    ) -> bool
+        requires { n ≤ most_route_numbers }
+        ensures { (result ≡ true) ↔ Reports self.now.setup a b n (numbered expected) list.now }
+    {
+        let mut room = [UNTOUCHED; ROUTE_NUMBERS];
+        let lent = &mut room[..n];
+        let answer = report(self.setup, a, b, lent);
+        (answer == expected) & holds(lent, list)
     }
-}
-
-fn route_value(answer: RouteAnswer) -> u32
-    ensures { result ≡ (route_numbers_of answer).1 }
-{
-    match answer {
-        RouteAnswer::NoRoute => 0,
-        RouteAnswer::Route(calls) => calls,
-        RouteAnswer::Refused(refusal) => refusal,
-    }
-}
-
-// Whether the report with an untouched room answers so, and writes the list.
-fn reports_in(
-    setup: Setup,
-    a: u32,
-    b: u32,
-    room: &mut [u32],
-    kind: u32,
-    value: u32,
-    list: &[u32],
-) -> bool
-    requires { room.old ≡ room_of (length room.old) }
-    ensures { (result ≡ true) ↔ Reports setup a b (length room.old) (kind, value) list.now }
-{
-    let answer = report(setup, a, b, room);
-    (route_kind(answer) == kind) & (route_value(answer) == value) & holds(room, list)
-}
-
-// The same with room for n numbers.
-pub fn reports(setup: Setup, a: u32, b: u32, n: usize, kind: u32, value: u32, list: &[u32]) -> bool
-    requires { n ≤ most_route_numbers }
-    ensures { (result ≡ true) ↔ Reports setup a b n (kind, value) list.now }
-{
-    let mut room = [UNTOUCHED; ROUTE_NUMBERS];
-    reports_in(setup, a, b, &mut room[..n], kind, value, list)
-}
-
-fn same_content(a: Cell, b: Cell) -> bool
-    ensures { result ≡ eqb a.figure b.figure && eqb a.written b.written }
-{
-    (a.figure == b.figure) & (a.written == b.written)
-}
-
-fn same_contents(a: [Cell; FILES], b: [Cell; FILES]) -> bool
-    ensures { (result ≡ true) ↔ (a ≡ b) }
-{
-    let mut i = 0;
-    while i < FILES {
-        if !same_content(a[i], b[i]) {
-            return false;
-        }
-        i += 1;
-    }
-    true
-}
-
-fn same_store(a: Store, b: Store) -> bool
-    ensures { (result ≡ true) ↔ (a ≡ b) }
-{
-    let left = a.cells;
-    let right = b.cells;
-    holds(&a.holders, &b.holders) & same_contents(left, right) & check::same(&a.marks, &b.marks)
-}
-
-// Whether the list leaves the store so.
-pub fn leaves(setup: Setup, store: Store, calls: &[u32], left: Store) -> bool
-    ensures { (result ≡ true) ↔ Leaves setup store calls.now left }
-{
-    let mut room = [UNTOUCHED; ROUTE_NUMBERS];
-    let listed = run(setup, store, calls, &mut room);
-    let next = listed.store;
-    same_store(next, left)
 }

@@ -8,12 +8,11 @@ use Rattle.trial.proofs.case_8.Goals as goal
 
 pub expect-requires : goal.expect-requires
 unfolding in_quads in_pairs
-expect-requires c = c.answers.ensures.1 (handed_on _ _ c.requires (comes_out 8 (omega arith)))
+expect-requires c = c.answers.ensures.1 (handed_on _ _ c.eight-eight.ensures (comes_out 8 (omega arith)))
 
 pub expect-requires-2 : goal.expect-requires-2
 unfolding in_quads in_pairs
-expect-requires-2 c = c.answers-2.ensures.1 (handed_on _ _ c.requires (comes_out 9 (omega arith)))
+expect-requires-2 c = c.answers-2.ensures.1 (handed_on _ _ c.eight-eight.ensures (comes_out 9 (omega arith)))
 
 pub expect-requires-3 : goal.expect-requires-3
-unfolding in_quads in_pairs
-expect-requires-3 c = c.reports.ensures.1 (handed_route _ _ _ _ _ c.requires.0 (comes_out 10 (omega arith)))
+expect-requires-3 c = c.reports.ensures.1 (handed_route _ _ _ _ _ c.eight-eight.ensures (comes_out 10 (omega arith)))

@@ -1,7 +1,7 @@
--- `judging::accepting::given_rights` meets its contract. The loop's invariant: the rights passed are filled.
-use native.Mathlib.Omega.{arith}
-use Rattle.rules.proofs.Filled.{filled_all}
+-- `judging::accepting::given_rights` meets its contract: each right is the one given for its place.
+use Rattle.std.proofs.Common.{rules}
+use Rattle.judging.proofs.Asked.{made_table}
 use Rattle.judging.proofs.accepting.given_rights.Goals as goal
 
 pub returns : goal.returns
-returns c = filled_all _ _ _ _ c.loop-i.invariant (omega arith)
+returns c = made_table _ _ _ _ (λ i y q l h. (search rules, search rules)) _ c.from_fn.ensures.items

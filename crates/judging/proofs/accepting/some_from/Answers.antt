@@ -1,8 +1,10 @@
--- `judging::accepting::some_from` meets its contract: an entry that does not fit is the bound or more.
-use mathlib.Core.Path.{ap, ◌∙◌}
-use mathlib.Core.Bool.{not}
-use Rattle.rules.proofs.Refusals.{some_from_fit}
+-- `judging::accepting::some_from` meets its contract, entry by entry.
+use Rattle.std.proofs.Common.{rules}
+use Rattle.std.proofs.iter.runs.Made.{chains}
+use Rattle.rules.specs.Refusals.{some_from}
+use Rattle.judging.proofs.Asked.{asked_any}
 use Rattle.judging.proofs.accepting.some_from.Goals as goal
 
 pub returns : goal.returns
-returns c = ap not c.entries_fit.ensures ∙ some_from_fit _ _
+unfolding some_from
+returns c = asked_any _ _ _ (λ e. search (rules, chains)) (λ e k l. search (rules, chains))

@@ -1,11 +1,8 @@
--- `judging::fitting::entries_fit` meets its contract. The loop's invariant: every entry passed fits.
-use native.Mathlib.Omega.{arith}
-use Rattle.rules.proofs.Passed.{passed_all, stopped_at}
-use Rattle.rules.proofs.Told.{known}
+-- `judging::fitting::entries_fit` meets its contract, entry by entry.
+use Rattle.std.proofs.Common.{rules}
+use Rattle.std.proofs.iter.runs.Made.{chains}
+use Rattle.judging.proofs.Asked.{asked_all}
 use Rattle.judging.proofs.fitting.entries_fit.Goals as goal
 
-pub returns-then-not-entry_fits : goal.returns-then-not-entry_fits
-returns-then-not-entry_fits c = stopped_at _ _ _ (omega arith) (known c.entry_fits.ensures c.if-not-entry_fits.true)
-
 pub returns : goal.returns
-returns c = passed_all _ _ _ c.loop-i.invariant c.loop-i-test.false
+returns c = asked_all _ _ _ (λ e k l. search (rules, chains)) (λ e. search (rules, chains))

@@ -1,11 +1,15 @@
--- `judging::fitting::rights_fit` meets its contract. The loop's invariant: the row of every desk passed fits.
-use native.Mathlib.Omega.{arith}
-use Rattle.rules.proofs.Passed.{passed_all, stopped_at}
-use Rattle.rules.proofs.Told.{known}
+-- `judging::fitting::rights_fit` meets its contract, row by row.
+use Rattle.std.proofs.Common.{rules, refl}
+use Rattle.std.proofs.lemmas.Iterator.{YieldsList-from_range}
+use Rattle.std.proofs.lemmas.Iterator.Search.{all_from_yields_List}
+use Rattle.rules.specs.Sizes.{most_desks}
+use Rattle.rules.specs.Setups.{row_fits, rights_fit}
+use Rattle.judging.proofs.Asked.{asked_below}
 use Rattle.judging.proofs.fitting.rights_fit.Goals as goal
 
-pub returns-then-not-row_fits : goal.returns-then-not-row_fits
-returns-then-not-row_fits c = stopped_at _ _ _ (omega arith) (known (rw c.classes_at-count.ensures at c.row_fits.ensures) c.if-not-row_fits.true)
-
 pub returns : goal.returns
-returns c = passed_all _ _ _ c.loop-desk.invariant c.loop-desk-test.false
+unfolding rights_fit
+returns c =
+    asked_below _ _ _
+    (all_from_yields_List (row_fits c.args.setup.now) _ _ _ c.all.ensures.ran (YieldsList-from_range 0 most_desks most_desks refl refl)
+    (λ x b q k. search rules))

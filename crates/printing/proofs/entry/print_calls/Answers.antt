@@ -13,5 +13,5 @@ pub returns : goal.returns
 returns c =
     let at = c.args in
     let front : take (calls_in at.calls.now * answer_width) c.run.new.answers ≡ in_numbers (answers_over at.setup fresh_store (calls_of at.calls.now)) =
-    rw (c.run.ensures.room, c.fresh-given.ensures) (answers_front at.setup at.calls.now _ c.requires.0 (omega (arith, c.requires.0.few))) in
+    rw (c.run.ensures.room, c.fresh.ensures) (answers_front at.setup at.calls.now _ c.requires.runs (omega (arith, c.requires.runs.few))) in
     rw (front, answers_of-numbers) at c.put_answers.ensures

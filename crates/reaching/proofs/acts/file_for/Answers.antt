@@ -1,10 +1,7 @@
--- `reaching::acts::file_for` meets its contract. The loop's invariant: no file passed serves.
-use mathlib.Core.Path.{sym, ◌∙◌}
-use Rattle.reaching.proofs.Searched.{searched_all, found_at}
+-- `reaching::acts::file_for` meets its contract, by what the search promises.
+use Rattle.std.proofs.Common.{rules}
+use Rattle.reaching.proofs.Searched.{searched}
 use Rattle.reaching.proofs.acts.file_for.Goals as goal
 
-pub returns-then-files-f : goal.returns-then-files-f
-returns-then-files-f c = searched_all _ _ _ c.loop-f.invariant c.if-files-f.true
-
-pub returns-then-serves : goal.returns-then-serves
-returns-then-serves c = found_at _ _ _ c.loop-f.invariant c.if-files-f.false (sym c.serves.ensures ∙ c.if-serves.true)
+pub returns : goal.returns
+returns c = searched _ _ _ (λ k l. search (rules, c.lowest.ensures.none_below k l)) c.lowest.ensures.within (λ l. search (rules, c.lowest.ensures.found l))

@@ -1,16 +1,20 @@
 -- `reaching::linking::links_of` meets its contract, by what the marks and the table promise.
-use mathlib.Core.Path.{refl}
 use native.Mathlib.Omega.{arith}
-use Rattle.rules.proofs.Setups.{accepted_sizes}
-use Rattle.reaching.proofs.Linked.{desk_lt, class_lt, links_told}
+use Rattle.std.proofs.Common.{rules, ◌≡◌, length}
+use Rattle.rules.specs.Sizes.{most_processes, most_files}
+use Rattle.reaching.proofs.Linked.{front_below, front_table, processes_le, files_le, desk_lt, class_lt, links_told}
 use Rattle.reaching.proofs.linking.links_of.Goals as goal
 
-pub mark_each-requires : goal.mark_each-requires
-mark_each-requires c = (refl, omega (arith, (accepted_sizes _ c.requires).of_processes.high), desk_lt c.args.setup c.requires)
+pub marks_of-requires : goal.marks_of-requires
+marks_of-requires c = (omega arith, front_below _ _ _ (desk_lt c.args.setup.now c.requires))
 
-pub mark_each-requires-2 : goal.mark_each-requires-2
-mark_each-requires-2 c = (refl, omega (arith, (accepted_sizes _ c.requires).of_files.high), class_lt c.args.setup c.requires)
+pub marks_of-requires-2 : goal.marks_of-requires-2
+marks_of-requires-2 c = (omega arith, front_below _ _ _ (class_lt c.args.setup.now c.requires))
 
 pub returns : goal.returns
 returns c =
-    rw (c.pairs_of.ensures, c.mark_each-2.ensures, c.mark_each.ensures) (links_told c.args.setup c.requires)
+    let s = c.args.setup.now in
+    let desks : length s.desk ≡ most_processes = search rules in
+    let classes : length s.class ≡ most_files = search rules in
+    rw (c.pairs.ensures, c.marks_of.ensures, c.marks_of-2.ensures, front_table s.desk s.processes (omega (arith, processes_le s c.requires)), front_table s.class s.files (omega (arith, files_le s c.requires)))
+    (links_told s c.requires)

@@ -1,7 +1,9 @@
--- `reaching::nearing::nearer` meets its contract. The loop's invariant: the numbers of the desks passed are filled in.
-use native.Mathlib.Omega.{arith}
-use Rattle.rules.proofs.Filled.{filled_all}
+-- `reaching::nearing::nearer` meets its contract.
+use Rattle.std.proofs.Common.{rules, tests}
+use Rattle.chains.specs.Chains.{nearer}
+use Rattle.reaching.specs.Tables.{links_in}
+use Rattle.reaching.proofs.Made.{made_is}
 use Rattle.reaching.proofs.nearing.nearer.Goals as goal
 
 pub returns : goal.returns
-returns c = filled_all _ _ _ _ c.loop-d.invariant (omega (arith, c.loop-d-test.false))
+returns c = made_is _ _ _ _ (nearer (links_in c.args.links.now) c.args.before.now c.args.n) 0 c.from_fn.ensures.items (λ i y q l t. search (rules, tests))

@@ -4,8 +4,8 @@ use lib.ListN.{length}
 use Rattle.text.proofs.Accessed.{Accessed}
 use Rattle.text.proofs.setups.access_lines.Given as goal
 
-abbrev pub invariant-loop-line : goal.invariant-loop-line
-invariant-loop-line l = Accessed l.desks l.classes l.text l.start l.rights l.at l.least
+abbrev pub invariant-loop-next : goal.invariant-loop-next
+invariant-loop-next l = Accessed l.desks l.classes l.text l.start l.rights l.at l.least
 
-abbrev pub decreases-loop-line : goal.decreases-loop-line
-decreases-loop-line l = length l.text - l.at
+abbrev pub decreases-loop-next : goal.decreases-loop-next
+decreases-loop-next l = length l.text - l.at
