@@ -31,7 +31,9 @@ contents_told x y =
     (Decides-and _ _ (Decides-eqb x.figure y.figure) (Decides-eqb x.written y.written))
 
 -- stores are the same exactly where a derived `==` says so
-pub store_told : (a b : Store) (r : Bool) → r ≡ (pointwise (λ x y. x == y) a.holders b.holders && (pointwise same_content a.cells b.cells && pointwise (λ x y. x == y) a.marks b.marks)) → Decides r (a ≡ b)
+pub store_told : (a b : Store) (r : Bool)
+    → r ≡ (pointwise (λ x y. x == y) a.holders b.holders && (pointwise same_content a.cells b.cells && pointwise (λ x y. x == y) a.marks b.marks))
+    → Decides r (a ≡ b)
 store_told a b r e =
     Decides-at r _ e
     (Decides-like _ (λ t i. record { holders = t.0 i; cells = t.1.0 i; marks = t.1.1 i })
@@ -53,7 +55,11 @@ past_told front rest =
 
 -- a room without its front tells whether the front is written into it; a room with another front tells that it is not
 pub holds_told : (room front : List ℕ) (r : Option (Bor (List ℕ))) (b : Bool)
-    → MatchOption r (pointwise (λ x y. x == y) (take (length front) room) front ≡ false) (λ x. (pointwise (λ x y. x == y) (take (length front) room) front ≡ true) × (x.now ≡ drop (length front) room) × (length x.now + length front ≡ length room))
+    → MatchOption r
+    (pointwise (λ x y. x == y) (take (length front) room) front ≡ false)
+    (λ x.
+    (pointwise (λ x y. x == y) (take (length front) room) front ≡ true)
+    × (x.now ≡ drop (length front) room) × (length x.now + length front ≡ length room))
     → MatchOption r (b ≡ false) (λ x. b ≡ list_all (λ n. n == untouched) x.now)
     → Decides b (room ≡ written_into front (room_of (length room)))
 holds_told room front None b h k =

@@ -11,6 +11,10 @@ pub returns : goal.returns
 unfolding next_desk
 returns c =
     let (links, to, desk) = c.requires in
-    searched _ _ _ (λ k l. let e = c.lowest.ensures.none_below k l in leads_told _ _ _ _ _ desk (omega (arith, c.lowest.ensures.within)) (omega (arith, c.lowest.ensures.within, to)) ∙ search (rules, e))
-    c.lowest.ensures.within
-    (λ l. let e = c.lowest.ensures.found l in leads_told _ _ _ _ _ desk l (omega (arith, to)) ∙ search (rules, e))
+    let lowest = c.lowest.ensures in
+    searched _ _ _
+    (λ k l.
+    let e = lowest.none_below k l in
+    leads_told _ _ _ _ _ desk (omega (arith, lowest.within)) (omega (arith, lowest.within, to)) ∙ search (rules, e))
+    lowest.within
+    (λ l. let e = lowest.found l in leads_told _ _ _ _ _ desk l (omega (arith, to)) ∙ search (rules, e))

@@ -16,5 +16,11 @@ returns c =
     let s = c.args.setup.now in
     let desks : length s.desk ≡ most_processes = search rules in
     let classes : length s.class ≡ most_files = search rules in
-    rw (c.pairs.ensures, c.marks_of.ensures, c.marks_of-2.ensures, front_table s.desk s.processes (omega (arith, processes_le s c.requires)), front_table s.class s.files (omega (arith, files_le s c.requires)))
+    rw (
+      c.pairs.ensures,
+      c.marks_of.ensures,
+      c.marks_of-2.ensures,
+      front_table s.desk s.processes (omega (arith, processes_le s c.requires)),
+      front_table s.class s.files (omega (arith, files_le s c.requires)),
+    )
     (links_told s c.requires)
