@@ -1,12 +1,12 @@
 // Whether a setup could have been accepted, the fresh store, and whether a store fits its setup.
 ghost use Rattle.std.specs.Prelude.{◌≡◌, ◌<◌, length, get_or};
 ghost use Rattle.rules.specs.Sizes.{most_desks, most_processes, most_files, within, every, table};
-ghost use Rattle.rules.specs.Setups.{within_sizes, entry_fits, classes_at, row_fits, rights_fit, accepted};
+ghost use Rattle.rules.specs.Setups.{class_of, within_sizes, entry_fits, classes_at, row_fits, rights_fit, accepted};
 ghost use Rattle.rules.specs.Stores.{is_written, is_blank, holder_of, content_of, mark_of, holder_fits, mark_fits, marks_fit, content_fits, file_is_blank, file_fits, fits};
 ghost use Rattle.rules.specs.Refusals.{refusal_of, judge_refusal};
 ghost use Rattle.rules.specs.Entries.{given_store, freshness};
 
-use crate::rights::{has_r, may_write, right_of};
+use crate::rights::{entry_at, has_r, may_write, right};
 use rules::{
     BOTH, CLASSES, Cell, DESKS, FILES, LEAST, PROCESSES, Refusal, Setup, Store, UNWRITTEN,
 };
@@ -114,8 +114,10 @@ fn holder_fits(setup: &Setup, f: usize, holder: u32) -> bool
     }
 }
 
+// By the class of the file, which is looked up once for all its marks; the process's desk is another for each.
 #[tactic(auto, unfolding(rules::specs::Stores::mark_fits, rules::specs::Setups::may_read))]
-fn mark_fits(setup: &Setup, f: usize, p: usize, mark: u8) -> bool
+fn mark_fits(setup: &Setup, class: u8, f: usize, p: usize, mark: u8) -> bool
+    requires { class ≡ class_of setup.now f }
     ensures { result ≡ mark_fits setup.now f p mark }
 {
     if mark == 0 {
@@ -124,7 +126,7 @@ fn mark_fits(setup: &Setup, f: usize, p: usize, mark: u8) -> bool
     if mark != 1 {
         return false;
     }
-    p < setup.processes as usize && has_r(right_of(setup, p, f))
+    p < setup.processes as usize && has_r(right(setup, entry_at(&setup.desk, p), class))
 }
 
 // The open marks of one file, by process. That f is one of the files is asked by clauses, here and below: each f is a range's, which bounds it.
@@ -141,10 +143,11 @@ fn marks_fit(setup: &Setup, store: &Store, f: usize) -> bool
     requires { f < most_files }
     ensures { result ≡ marks_fit setup.now f (mark_of store.now f) }
 {
+    let class = entry_at(&setup.class, f);
     marks_of(store, f)
         .iter()
         .enumerate()
-        .all(|(p, mark)| mark_fits(setup, f, p, *mark))
+        .all(|(p, mark)| mark_fits(setup, class, f, p, *mark))
 }
 
 // A file past the files is unlocked, unopened and unwritten, with the figure 0.
