@@ -14,12 +14,12 @@ use Rattle.std.specs.List as list
 use Rattle.std.specs.List.{slice_range}
 use Rattle.std.specs.Cmp.Lexicographic.{pointwise}
 use Rattle.std.proofs.lemmas.Bool.Decides.{Decides-eqb}
-use Rattle.std.proofs.lemmas.Slice.Eq.{strip_prefix_is}
+use Rattle.std.proofs.lemmas.Slice.Eq.{strip_prefix_is, starts_is}
 use Rattle.std.specs.Bool.{then_some}
 use Rattle.std.specs.Char.{is_ascii_digit}
 use Rattle.std.proofs.lemmas.Slice.{between_to_end}
 use lib.ListN.{length, get_or, take, drop, drop_of_length-le, length-append, length-take, take-append-drop}
-use lib.Seq.{take-suc, drop-cons}
+use lib.Seq.{take-suc, drop-cons, get_or-append_seam}
 use Rattle.std.specs.Option.{option_map, option_or}
 use Rattle.std.specs.declared.option.Option.TheVariants.{None, Some}
 use Rattle.rules.specs.Sizes.{most_number}
@@ -123,6 +123,31 @@ pub word_stripped : (word : List ℕ) (stop : Stop) (text : List ℕ) (at : ℕ)
     ≡ part_at (the_word word) (stop_byte stop) text at
 word_stripped word stop text at rest after e h n =
     word_after word (stop_byte stop) text at after.now (stop_is stop) n (sym (rest_is text at e) ∙ strip_prefix_is Decides-eqb rest word (Some after) h)
+
+-- what is left from a cursor on is no longer than the word, or another byte than the stop follows it: then it does not stand there
+pub word_short : (word : List ℕ) (stop : ℕ) (text : List ℕ) (at : ℕ) (rest : List ℕ) → rest ≡ slice_range text at (length text)
+    → length rest ≤ length word → None ≡ part_at (the_word word) stop text at
+word_short word stop text at rest e l =
+    word_none word stop text at (λ ys q. omega (arith, l, simp length-append at (ap length (rest_is text at e ∙ q))))
+
+pub word_unstopped : (word : List ℕ) (stop : ℕ) (text : List ℕ) (at : ℕ) (rest : List ℕ) → rest ≡ slice_range text at (length text)
+    → (get_or rest (length word) 0 ≡ stop → ⊥) → None ≡ part_at (the_word word) stop text at
+word_unstopped word stop text at rest e h =
+    word_none word stop text at (λ ys q. h (rw (rest_is text at e ∙ q) (get_or-append_seam word stop ys 0)))
+
+-- where its stop follows, what is left tells whether it stands there
+pub word_started : (word : List ℕ) (stop : Stop) (text : List ℕ) (at : ℕ) (rest : List ℕ) (r : Bool) → rest ≡ slice_range text at (length text)
+    → length word < length rest → get_or rest (length word) 0 ≡ stop_byte stop → no_stop word ≡ true → r ≡ list.starts_with eqb rest word
+    → option_map (λ next. (next, 0)) (then_some r (at + length word + 1)) ≡ part_at (the_word word) (stop_byte stop) text at
+word_started word stop text at rest r e l b n s =
+    let (front, begun) = starts_is Decides-eqb rest word r s in
+    let here = rest_is text at e in
+    by_test r
+    (λ t.
+    let ys = drop (suc (length word)) rest in
+    let whole : rest ≡ word ++ (stop_byte stop ∷ ys) = front t ∙ ap (λ (l : List ℕ). word ++ l) (drop-cons rest (length word) 0 l ∙ ap (λ (k : ℕ). k ∷ ys) b) in
+    rw t (sym (part_there (the_word word) (stop_byte stop) text at word ys (stop_is stop) n (sym here ∙ whole) ∙ rw ((same_iff word word).1 refl))))
+    (λ f. rw f (word_none word (stop_byte stop) text at (λ ys q. false≢true (sym f ∙ begun (stop_byte stop ∷ ys) (here ∙ q)))))
 
 -- one of several words: the first of them, or else one of the others
 named-more_under : (a b : Bool) (end n : ℕ) (others : Option ℕ)

@@ -11,14 +11,18 @@ use crate::words::{Named, Word};
 
 pub const TEN: u32 = 10;
 
-// The cursor after a word and its stop.
-#[tactic(auto, using(crate::proofs::Scanned::part_past, crate::proofs::Scanned::word_differs, crate::proofs::Scanned::word_stripped))]
+// The cursor after a word and its stop. The stop is looked at first: a word of another length differs there most often, and by one byte.
+#[tactic(auto, using(crate::proofs::Scanned::part_past, crate::proofs::Scanned::word_short, crate::proofs::Scanned::word_unstopped, crate::proofs::Scanned::word_started))]
 pub fn word_at(text: &[u8], at: usize, word: Word<'_>, stop: Stop) -> Option<usize>
     ensures { option_map (λ next. (next, 0)) result ≡ part_at (the_word word.entry.bytes.now) (stop_byte stop) text.now at }
 {
-    let after = text.get(at..)?.strip_prefix(word.bytes)?;
-    let stopped = after.starts_with(&[stop.byte()]);
-    stopped.then_some(at + word.bytes.len() + 1)
+    let rest = text.get(at..)?;
+    let last = rest.get(word.bytes.len())?;
+    if *last != stop.byte() {
+        return None;
+    }
+    let found = rest.starts_with(word.bytes);
+    found.then_some(at + word.bytes.len() + 1)
 }
 
 // Some digits, with no leading zero but for 0 itself.
