@@ -6,15 +6,15 @@ ghost use Rattle.rules.specs.Stores.{is_open};
 ghost use Rattle.rules.specs.Calls.{answer_to, next_store};
 ghost use Rattle.rules.specs.Parts.{process_of, file_of, changeable};
 ghost use Rattle.rules.specs.Answers.{numbers_of};
-ghost use Rattle.calling.specs.Looking.{looks_at};
+ghost use Rattle.calling.specs.Looking.{right_in, looks_on, looks_at};
 ghost use Rattle.rules.specs.Entries.{called, ran};
 
 use crate::decoding::decode;
 use crate::stepping::step;
 use crate::{Looks, Meeting};
 use judging::fitting::judge;
-use judging::rights::{has_r, has_w, right_of};
-use rules::{Answer, Call, Called, Numbers, Setup, Store};
+use judging::rights::{entry_at, has_r, has_w};
+use rules::{Answer, CLASSES, Call, Called, Numbers, Setup, Store};
 
 #[tactic(auto, using(rules::proofs::Codes::numbers_process))]
 pub fn process_of(call: Call) -> u32
@@ -46,20 +46,36 @@ fn is_open(mark: u8) -> bool
     mark == 1
 }
 
-// The setup and the store are lent, so that neither is copied for a call.
-// That the call's numbers are in range is asked by clauses, here and below: a Call is any call, and so the laws of rules and views have it.
-fn look_at(setup: &Setup, store: &Store, call: Call) -> Looks
-    requires { (process_of call < most_processes) × (file_of call < most_files) × (changeable call < most_files) }
-    ensures { result ≡ looks_at setup.now store.now call }
+// The right of a process's desk on a file's class, from a setup's three tables.
+fn right_in(rights: &[u8], desk: &[u8], class: &[u8], p: usize, f: usize) -> u8
+    ensures { result ≡ right_in rights.now desk.now class.now p f }
+{
+    let d = entry_at(desk, p) as usize;
+    let t = entry_at(class, f) as usize;
+    entry_at(rights, d * CLASSES + t)
+}
+
+// What a call looks at, of any tables and meetings; the tables are lent, so that none is copied for a call.
+pub fn look_on(
+    rights: &[u8],
+    desk: &[u8],
+    class: &[u8],
+    call: Call,
+    source: Meeting,
+    target: Meeting,
+) -> Looks
+    ensures { result ≡ looks_on rights.now desk.now class.now call source target }
 {
     let p = process_of(call) as usize;
     let f = file_of(call) as usize;
     let x = changeable(call) as usize;
-    let source = Meeting::of(store, p, f);
-    let target = Meeting::of(store, p, x);
-    let own = right_of(setup, p, f);
+    let own = right_in(rights, desk, class, p, f);
     // It is looked up anew only where the file that the call can change is another.
-    let other = if x == f { own } else { right_of(setup, p, x) };
+    let other = if x == f {
+        own
+    } else {
+        right_in(rights, desk, class, p, x)
+    };
     Looks {
         r: has_r(own),
         w: has_w(other),
@@ -68,6 +84,25 @@ fn look_at(setup: &Setup, store: &Store, call: Call) -> Looks
         content: source.content,
         target,
     }
+}
+
+// The setup and the store are lent, so that neither is copied for a call.
+// That the call's numbers are in range is asked by clauses, here and below: a Call is any call, and so the laws of rules and views have it.
+fn look_at(setup: &Setup, store: &Store, call: Call) -> Looks
+    requires { (process_of call < most_processes) × (file_of call < most_files) × (changeable call < most_files) }
+    ensures { result ≡ looks_at setup.now store.now call }
+{
+    let p = process_of(call) as usize;
+    let source = Meeting::of(store, p, file_of(call) as usize);
+    let target = Meeting::of(store, p, changeable(call) as usize);
+    look_on(
+        &setup.rights,
+        &setup.desk,
+        &setup.class,
+        call,
+        source,
+        target,
+    )
 }
 
 // A call that exists, on a setup and a store that were judged: its answer, and the next store in the place of the store.
@@ -86,7 +121,8 @@ fn make(setup: &Setup, store: &mut Store, call: Call) -> Answer
 }
 
 // A call's numbers, on a setup and a store that were judged; a refused call leaves the store as it is.
-#[inline]
+// A list of refused calls takes about half the time where this is inlined, which `inline` alone leaves open.
+#[inline(always)]
 #[tactic(auto, using(crate::proofs::Ranges::process_lt, crate::proofs::Ranges::file_lt, crate::proofs::Ranges::changed_lt, rules::proofs::Decodes::ran_is, crate::proofs::Ran::ran_refused))]
 pub fn run_one(setup: &Setup, store: &mut Store, n: Numbers) -> Answer
     requires { accepted setup.now ≡ true }
