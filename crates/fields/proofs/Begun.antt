@@ -2,20 +2,22 @@
 -- Assumes nothing.
 use Prim.Native.Nat.{ℕ, zero, suc, ◌+◌, ◌<◌, ◌≤◌}
 use mathlib.Core.Path.{◌≡◌, refl, ap, sym, ◌∙◌}
-use mathlib.Core.Bool.{Bool, true, false, cond, false≢true}
+use mathlib.Core.Bool.{true, false, not, false≢true}
+use mathlib.Core.Logic.{◌↔◌}
 use mathlib.Core.List.{List, [], ◌∷◌, ◌++◌, append_assoc}
-use mathlib.Core.Option.{Option, some, none}
+use mathlib.Core.Option.{Option}
 use native.Mathlib.Omega.{arith}
 use native.Mathlib.Numerals.{add-one}
-use lib.ListN.{length, get_or, take, drop, length-append, length-drop}
+use borrow.Author.Tests.{eqb-false, ne_eqb, not-true}
+use lib.Dec.{eqb}
+use lib.ListN.{length, get_or, get_or-eq_default, take, drop, length-append, length-drop}
 use lib.Seq.{take-suc, drop-cons}
-use Rattle.std.proofs.lemmas.Option.{some_pair_parts}
 use Rattle.std.specs.declared.option.Option.TheVariants.{None, Some}
-use Rattle.lines.specs.Bytes.{line_feed, tab}
-use Rattle.lines.specs.Decimals.{are_digits, field_value}
+use Rattle.lines.specs.Bytes.{line_feed, tab, digit0}
+use Rattle.lines.specs.Decimals.{is_digit, are_digits, starts_well, field_value}
 use Rattle.lines.specs.Shapes.{Part, Shape, read_as}
-use Rattle.fields.specs.Cursor.{Found, found_at, making, first_field, after_field, starts_with, part_of, part_at, line_at}
-use Rattle.fields.proofs.Firsts.{field_whole}
+use Rattle.fields.specs.Cursor.{Found, making, first_field, after_field, starts_with, part_of, part_at, line_at}
+use Rattle.fields.proofs.Firsts.{field_whole, found_under}
 use Rattle.fields.proofs.Composed.{giving, ended, line_last, line_more}
 
 -- what is found, told by its cursor: 0 that there is nothing
@@ -23,32 +25,34 @@ abbrev pub told : {A : Type 0} → ℕ → A → Found A
 told zero x = None
 told (suc next) x = Some (suc next, x)
 
-told_some : {A : Type 0} (r : ℕ) (x : A) → (r ≡ 0 → ⊥) → told r x ≡ Some (r, x)
+pub told_some : {A : Type 0} (r : ℕ) (x : A) → (r ≡ 0 → ⊥) → told r x ≡ Some (r, x)
 told_some zero x h = absurd (h refl)
 told_some (suc r) x h = refl
 
--- a part that is found ends within the text
+-- bytes that start with a stop are some
 starts_some : (stop : ℕ) (bytes : List ℕ) → starts_with stop bytes ≡ true → 0 < length bytes
 starts_some stop [] t = absurd (false≢true t)
 starts_some stop (b ∷ bytes) t = omega arith
 
-found_under : (test : Bool) (k : ℕ) (o : Option ℕ) {next n : ℕ} → cond test (found_at k o) None ≡ Some (next, n) → (test ≡ true) × (next ≡ k)
-found_under false k o e = cc
-found_under true k none e = cc
-found_under true k (some y) {next} {n} e = (refl, sym (some_pair_parts k next y n e).0)
-
-part_within : (part : Part) (stop : ℕ) (text : List ℕ) (at : ℕ) {next n : ℕ} → part_at part stop text at ≡ Some (next, n) → next ≤ length text
+-- a field that a stop ends lies within the text, and so does its stop
+pub part_within : (part : Part) (stop : ℕ) (text : List ℕ) (at : ℕ) {next n : ℕ} → part_at part stop text at ≡ Some (next, n)
+    → (at < next) × (next ≤ length text)
 unfolding part_at
 part_within part stop text at {next} {n} e =
     let rest = drop at text in
-    let (t, k) = found_under (starts_with stop (after_field rest)) (at + length (first_field rest) + 1) (part_of part (first_field rest)) e in
-    let some_left = starts_some stop (after_field rest) t in
+    let (t, k, o) = found_under (starts_with stop (after_field rest)) (at + length (first_field rest) + 1) (part_of part (first_field rest)) e in
+    let some_left : 0 < length (after_field rest) = starts_some stop (after_field rest) t in
     let l = simp length-append at (ap length (field_whole rest)) in
     let m = length-drop at text in
-    omega arith
+    (omega arith, omega arith)
+
+-- the same of what is told of a field
+pub part_told : (part : Part) (stop : ℕ) (text : List ℕ) (at r n : ℕ) → told r n ≡ part_at part stop text at → (r ≡ 0 → ⊥)
+    → (at < r) × (r ≤ length text)
+part_told part stop text at r n e h = part_within part stop text at (sym e ∙ told_some r n h)
 
 -- what is told of the last part of a line is told of the line
-ended_told : (part : Part) (r n : ℕ) → told r (giving part n []) ≡ ended part (told r n)
+pub ended_told : (part : Part) (r n : ℕ) → told r (giving part n []) ≡ ended part (told r n)
 ended_told part zero n = refl
 ended_told part (suc r) n = refl
 
@@ -67,7 +71,7 @@ pub begun : (shape : Shape) (text : List ℕ) (at : ℕ) → at ≤ length text 
 begun shape text at h = record { within = h; goes = λ end ns e. e }
 
 -- where a part is found the line is what follows it, with its number before
-line-goes : (part next : Part) (parts : Shape) (text : List ℕ) (at r n end : ℕ) (ns : List ℕ) → told r n ≡ part_at part tab text at
+pub line-goes : (part next : Part) (parts : Shape) (text : List ℕ) (at r n end : ℕ) (ns : List ℕ) → told r n ≡ part_at part tab text at
     → (r ≡ 0 → ⊥) → told end ns ≡ line_at (read_as (next ∷ parts)) text r → told end (giving part n ns) ≡ line_at (read_as (part ∷ next ∷ parts)) text at
 line-goes part next parts text at r n end ns e h k =
     let here : part_at part tab text at ≡ Some (r, n) = sym e ∙ told_some r n h in
@@ -78,7 +82,7 @@ module _ {A : Type 0} {read : List (List ℕ) → Option A} {text : List ℕ} {a
   pub begun_more : {next : Part} {parts : Shape} → Begun read text at (part ∷ next ∷ parts) from front → {r : ℕ} (n : ℕ) → told r n ≡ part_at part tab text from
       → (r ≡ 0 → ⊥) → Begun read text at (next ∷ parts) r (λ ns. front (giving part n ns))
   begun_more {next} {parts} b {r} n e h = record {
-    within = part_within part tab text from (sym e ∙ told_some r n h);
+    within = (part_told part tab text from r n e h).1;
     goes = λ end ns k. b.goes end (giving part n ns) (line-goes part next parts text from r n end ns e h k);
   }
 
@@ -92,15 +96,15 @@ pub record Scanned (text : List ℕ) (at i : ℕ) (front : List ℕ) : Type 0 wh
   pub goes : drop at text ≡ front ++ drop i text
   pub long : at + length front ≡ i
 
-scanned_none : (text : List ℕ) (at i : ℕ) → i ≡ at → Scanned text at i []
+pub scanned_none : (text : List ℕ) (at i : ℕ) → i ≡ at → Scanned text at i []
 scanned_none text at i e = record { goes = rw e; long = omega arith }
 
 module _ (text : List ℕ) (at i : ℕ) (front : List ℕ) (s : Scanned text at i front) (l : i < length text) where
   -- the byte at the cursor is the next
-  scanned_next : drop at text ≡ front ++ (get_or text i 0 ∷ drop (i + 1) text)
+  pub scanned_next : drop at text ≡ front ++ (get_or text i 0 ∷ drop (i + 1) text)
   scanned_next = s.goes ∙ rw (add-one, drop-cons text i 0)
 
-  scanned_more : Scanned text at (i + 1) (front ++ (get_or text i 0 ∷ []))
+  pub scanned_more : Scanned text at (i + 1) (front ++ (get_or text i 0 ∷ []))
   scanned_more = record { goes = scanned_next ∙ sym (append_assoc front _ _); long = rw length-append (omega (arith, s.long)) }
 
 -- one byte more of the word has gone by
@@ -110,6 +114,19 @@ word_more word text at i l b s e =
     let more = rw e at (scanned_more text at (at + i) (take i word) s b) in
     let far : at + i + 1 ≡ at + (i + 1) = omega arith in
     rw (← far, add-one i, take-suc word i 0) more
+
+-- a field starts well where it is not empty, and is one byte where that is the digit 0
+pub starts_iff : (xs : List ℕ) → (starts_well xs ≡ true) ↔ ((0 < length xs) × (get_or xs 0 0 ≡ digit0 → length xs ≤ 1))
+starts_iff [] = (λ e. absurd (false≢true e), λ h. absurd (omega arith))
+starts_iff (x ∷ []) = (λ e. (omega arith, λ z. omega arith), λ h. refl)
+starts_iff (x ∷ (y ∷ xs)) = (
+  λ e. (omega arith, λ z. absurd (eqb-false x digit0 (not-true (eqb x digit0) e) z)),
+  λ h. ap not (ne_eqb x digit0 (λ z. omega (arith, h.1 z))),
+)
+
+-- no digit stands past the end
+pub no_digit_past : (text : List ℕ) (i : ℕ) → length text ≤ i → is_digit (get_or text i 0) ≡ false
+no_digit_past text i l = rw (get_or-eq_default text 0 l)
 
 -- the digits that have gone by, and their value
 pub record Counted (text : List ℕ) (at i value : ℕ) : Type 0 where

@@ -161,7 +161,7 @@ either_under false k o p = refl
 
 -- a line of which something is made is the line, with what is made of its numbers
 module _ (text : List ℕ) (at : ℕ) where
-  line_made : {A : Type 0} (f : List ℕ → A) (read : List (List ℕ) → Option (List ℕ))
+  pub line_made : {A : Type 0} (f : List ℕ → A) (read : List (List ℕ) → Option (List ℕ))
       → line_at (λ fields. made f (read fields)) text at ≡ making f (line_at read text at)
   unfolding line_at
   line_made f read =
@@ -181,7 +181,7 @@ module _ (text : List ℕ) (at : ℕ) where
   calls_read = refl
 
   -- a line that is read in one of two ways
-  line_either : (first second : List (List ℕ) → Option (List ℕ))
+  pub line_either : (first second : List (List ℕ) → Option (List ℕ))
       → line_at (λ fields. either (first fields) (second fields)) text at ≡ option_or (line_at first text at) (line_at second text at)
   unfolding line_at
   line_either first second =

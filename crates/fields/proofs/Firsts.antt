@@ -105,7 +105,7 @@ whole_line (b ∷ rest) h =
     (λ f. let e = whole_line rest (rw f at h) in rw f (simp towards_suc (simp towards_suc at (ap (λ (l : List ℕ). b ∷ l) e))))
 
 -- what is found under a test was there, with the cursor and what was read
-found_under : {A : Type 0} (test : Bool) (k : ℕ) (o : Option A) {next : ℕ} {x : A} → cond test (found_at k o) None ≡ Some (next, x)
+pub found_under : {A : Type 0} (test : Bool) (k : ℕ) (o : Option A) {next : ℕ} {x : A} → cond test (found_at k o) None ≡ Some (next, x)
     → (test ≡ true) × (next ≡ k) × (o ≡ some x)
 found_under false k o e = cc
 found_under true k none e = cc
@@ -114,7 +114,7 @@ found_under true k (some y) {next} {x} e =
     (refl, sym k_is, ap (λ z. some z) y_is)
 
 -- and where nothing is found the test failed, or what was read is nothing
-none_under : {A : Type 0} (test : Bool) (k : ℕ) (o : Option A) → cond test (found_at k o) None ≡ None
+pub none_under : {A : Type 0} (test : Bool) (k : ℕ) (o : Option A) → cond test (found_at k o) None ≡ None
     → ((test ≡ true) × (o ≡ none)) ⊎ (test ≡ false)
 none_under false k o e = inr refl
 none_under true k none e = inl (refl, refl)

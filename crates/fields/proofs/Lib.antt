@@ -3,4 +3,5 @@
 pub mod Begun
 pub mod Composed
 pub mod Firsts
+pub mod Levels
 pub mod Scanned

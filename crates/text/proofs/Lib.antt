@@ -5,6 +5,7 @@ pub mod Answered
 pub mod Ended
 pub mod Entered
 pub mod Gathered
+pub mod Levels
 pub mod ReadOn
 pub mod Stages
 pub mod Tables

@@ -42,13 +42,13 @@ module _ (t : Text) (text : List ℕ) (at : ℕ) (s : SoFar) where
   line-judged bytes rest e w = rw (e, lines_first at bytes rest w)
 
   -- a line that is refused decides
-  line_refused : (bytes rest : List ℕ) (r n : ℕ) → drop at text ≡ bytes ++ (line_feed ∷ rest) → holds_no line_feed bytes ≡ true
+  pub line_refused : (bytes rest : List ℕ) (r n : ℕ) → drop at text ≡ bytes ++ (line_feed ∷ rest) → holds_no line_feed bytes ≡ true
       → judge_due t s.due s at (fields_of bytes) ≡ refused r n → read_on t text at s ≡ refused r n
   line_refused bytes rest r n e w j =
       line-judged bytes rest e w ∙ rw (j, refused_stays t r n (lines_from (at + length bytes + 1) (pieces line_feed rest)))
 
   -- after a sound line the text comes to what its lines after it come to
-  line_sound : (bytes rest : List ℕ) (m : SoFar) → drop at text ≡ bytes ++ (line_feed ∷ rest) → holds_no line_feed bytes ≡ true
+  pub line_sound : (bytes rest : List ℕ) (m : SoFar) → drop at text ≡ bytes ++ (line_feed ∷ rest) → holds_no line_feed bytes ≡ true
       → judge_due t s.due s at (fields_of bytes) ≡ sound m → read_on t text at s ≡ read_on t text (at + length bytes + 1) m
   unfolding read_on
   line_sound bytes rest m e w j = line-judged bytes rest e w ∙ rw (j, drop_past text at line_feed bytes rest e)
@@ -74,11 +74,11 @@ module _ (t : Text) (text : List ℕ) (at : ℕ) (s : SoFar) where
   none_missing l c = at_the_end l ∙ rw c
 
   -- what is no whole line breaks the rules where it starts
-  no_line : at ≤ length text → is_whole (drop at text) ≡ false → (at ≡ length text → complete t s.due ≡ false) → read_on t text at s ≡ refused breaks_rules at
+  pub no_line : at ≤ length text → is_whole (drop at text) ≡ false → (at ≡ length text → complete t s.due ≡ false) → read_on t text at s ≡ refused breaks_rules at
   no_line l w m = ⊎_elim (λ q. line_missing q (m q)) (λ k. part_breaks w k) (eq-or-lt_of_le l)
 
 -- the fields of the first line from a cursor on
-abbrev fields_at : List ℕ → ℕ → List (List ℕ)
+abbrev pub fields_at : List ℕ → ℕ → List (List ℕ)
 fields_at text at = fields_of (first_line (drop at text))
 
 module _ (t : Text) (text : List ℕ) (at : ℕ) where
