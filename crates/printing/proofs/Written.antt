@@ -3,16 +3,16 @@
 use Prim.Native.Nat.{ℕ, ◌+◌, ◌<◌, ◌≤◌}
 use mathlib.Core.Path.{◌≡◌, refl, ap, ◌∙◌}
 use mathlib.Core.List.{List, [], ◌∷◌, ◌++◌, append_assoc}
-use native.Mathlib.Nat.{add-zero, zero-add}
+use native.Mathlib.Nat.{le_antisymm, add-zero, zero-add}
 use native.Mathlib.Numerals.{add-one}
 use native.Mathlib.Omega.{arith}
-use lib.ListN.{length, set, take, drop, length-append, length-take, length-drop, take-append-drop}
-use lib.Seq.{take_at, drop-append-add, drop-drop, set_split, paste, paste-zero}
+use lib.ListN.{length, get_or, set, take, drop, length-append, length-take, length-drop, length-set, take-append-drop}
+use lib.Seq.{take_at, take-length, drop-append-add, drop-drop, set_split, paste, paste-zero, paste-suc}
 use Rattle.printing.specs.Writers.{with_bytes, Fit, Wrote}
 use Rattle.printing.specs.declared.writing.Writer.{Writer}
 
 -- none leave it as it was
-bytes_none : (run : List ℕ) (at : ℕ) → with_bytes run at [] ≡ run
+pub bytes_none : (run : List ℕ) (at : ℕ) → with_bytes run at [] ≡ run
 unfolding with_bytes
 bytes_none run at = rw add-zero (take-append-drop at run)
 
@@ -25,12 +25,12 @@ module _ (run : List ℕ) (at : ℕ) (xs : List ℕ) (h : at + length xs ≤ len
   front_length : length (take at run ++ xs) ≡ at + length xs
   front_length = simp (length-append, length-take) (omega arith)
 
-  with_bytes-length : length (with_bytes run at xs) ≡ length run
+  pub with_bytes-length : length (with_bytes run at xs) ≡ length run
   unfolding with_bytes
   with_bytes-length = simp (length-append, length-take, length-drop) (omega arith)
 
   -- bytes put right after others are put with them
-  bytes_more : (ys : List ℕ) → with_bytes (with_bytes run at xs) (at + length xs) ys ≡ with_bytes run at (xs ++ ys)
+  pub bytes_more : (ys : List ℕ) → with_bytes (with_bytes run at xs) (at + length xs) ys ≡ with_bytes run at (xs ++ ys)
   unfolding with_bytes
   bytes_more ys =
       let front = take at run ++ xs in
@@ -56,12 +56,28 @@ pub record Copied (run : List ℕ) (at : ℕ) (word : List ℕ) (i : ℕ) (now :
 pub copied_none : (run : List ℕ) (at : ℕ) (word : List ℕ) → Copied run at word 0 run
 copied_none run at word = record { within = omega arith; kept = refl; put = paste-zero run at word }
 
+-- one byte more, and all of them
+module _ (run : List ℕ) (at : ℕ) (word : List ℕ) (h : at + length word ≤ length run) where
+  pub copied_more : (i : ℕ) (now : List ℕ) → Copied run at word i now → i < length word → Copied run at word (i + 1) (set now (at + i) (get_or word i 0))
+  copied_more i now c l =
+      record {
+        within = omega arith;
+        kept = simp length-set c.kept;
+        put = rw (c.put, add-one i) (paste-suc run at word i 0 (omega arith) l);
+      }
+
+  pub copied_all : (i : ℕ) (now : List ℕ) → Copied run at word i now → length word ≤ i → (at + i ≡ at + length word) × (now ≡ with_bytes run at word)
+  unfolding with_bytes
+  copied_all i now c l =
+      let all : i ≡ length word = le_antisymm c.within l in
+      (rw all, c.put ∙ rw (all, take-length) (append_assoc (take at run) word (drop (at + length word) run)))
+
 -- a writer that has written nothing yet
 pub wrote_none : (w : Writer) → Wrote w [] w
 wrote_none w = record { same = refl; past = omega arith; put = rw bytes_none }
 
 -- a run keeps its length
-wrote_length : {w v : Writer} {xs : List ℕ} → Fit w xs → Wrote w xs v → length v.out.now ≡ length w.out.now
+pub wrote_length : {w v : Writer} {xs : List ℕ} → Fit w xs → Wrote w xs v → length v.out.now ≡ length w.out.now
 wrote_length {w} {v} {xs} h wrote = ap length wrote.put ∙ with_bytes-length w.out.now w.at xs h.fits
 
 -- what is written in parts: the first of them fits, the next fits after it, and both are then written
