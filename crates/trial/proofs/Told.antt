@@ -11,6 +11,8 @@ use Rattle.std.proofs.lemmas.List.{append_cancel_left, drop-replicate, length-ap
 use Rattle.rules.specs.Stores.{Content}
 use Rattle.rules.specs.Calls.{calls_in}
 use Rattle.rules.specs.Refusals.{number_of, numbered}
+use Rattle.rules.specs.Answers.{told_numbers_of, pair_of}
+use Rattle.rules.specs.declared.crossing.Numbered.{Numbered}
 use Rattle.rules.specs.declared.Setup.{Setup}
 use Rattle.rules.specs.declared.Store.{Store}
 use Rattle.rules.specs.declared.refusal.Refusal.{Refusal}
@@ -111,16 +113,27 @@ numbered_told (Err r) (Err t) e =
     let k : number_of r ≡ number_of t = cc in
     ap Err (sym (by_number r) ∙ ap (λ (n : ℕ). get_or refusals n CountOutside) k ∙ by_number t)
 
+-- a pair is told by its two numbers
+pair_told : (p : Numbered) (q : ℕ × ℕ) (kind value : ℕ) → pair_of p ≡ q → Decides ((p.kind == kind) && (p.value == value)) (q ≡ (kind, value))
+pair_told p q kind value e =
+    rw (sym e)
+    (Decides-like _ (λ t i. (t.0 i, t.1 i)) (λ t. (ap (λ (r : ℕ × ℕ). r.0) t, ap (λ (r : ℕ × ℕ). r.1) t))
+    (Decides-and _ _ (Decides-eqb p.kind kind) (Decides-eqb p.value value)))
+
 -- a report that is lent the front of an untouched room tells what it is to tell
-pub reports_told : (s : Setup) (a b n : ℕ) (answer expected : Result (Option ℕ) Refusal) (lent room list : List ℕ) (x y : Bool) → lent ≡ room_of n
-    → numbered answer ≡ routed s a b (length lent) → room ≡ room_after s a b lent → length room ≡ length lent → Decides x (answer ≡ expected)
-    → Decides y (room ≡ written_into list (room_of (length room))) → Decides (x && y) (Reports s a b n (numbered expected) list)
+pub reports_told : (s : Setup) (a b n : ℕ) (answer expected : Result (Option ℕ) Refusal) (pair : Numbered) (kind value : ℕ) (lent room list : List ℕ)
+    (x y : Bool) → lent ≡ room_of n → numbered answer ≡ routed s a b (length lent) → pair_of pair ≡ told_numbers_of (numbered answer)
+    → room ≡ room_after s a b lent → length room ≡ length lent → Decides x (answer ≡ expected) → Decides y (room ≡ written_into list (room_of (length room)))
+    → Decides ((pair.kind == kind) && (pair.value == value) && x && y) (Reports s a b n (numbered expected) (kind, value) list)
 unfolding Reports
-reports_told s a b n answer expected lent room list x y whole e f l p q =
+reports_told s a b n answer expected pair kind value lent room list x y whole e g f l p q =
     let many : length lent ≡ n = ap length whole ∙ length-replicate n untouched in
     let told : numbered answer ≡ routed s a b n = e ∙ ap (routed s a b) many in
     let filled : room ≡ room_after s a b (room_of n) = f ∙ ap (room_after s a b) whole in
-    rw (sym told, sym filled) (Decides-and x y (Decides-like x (λ k. ap numbered k) (numbered_told answer expected) p) (rw (l ∙ many) at q))
+    let numbers = pair_told pair _ kind value (g ∙ ap told_numbers_of told) in
+    let answers = Decides-like x (λ k. ap numbered k) (numbered_told answer expected) p in
+    let three = Decides-and _ y (Decides-and _ x numbers (rw told at answers)) (rw filled at (rw (l ∙ many) at q)) in
+    Decides-like _ (λ t. (t.0.1, t.0.0, t.1)) (λ t. ((t.1, t.0), t.2)) three
 
 -- what holds of the table's start holds of the one that is handed on
 pub handed_on : {s t : Start} (list expected : List ℕ) → t ≡ s → Answers s.setup s.store list expected → Answers t.setup t.store list expected
@@ -129,5 +142,6 @@ handed_on list expected e h = rw e h
 pub handed_left : {s t : Start} (list : List ℕ) → t ≡ s → Leaves s.setup s.store list s.store → Leaves t.setup t.store list t.store
 handed_left list e h = rw e h
 
-pub handed_route : {s t : Start} (a b n : ℕ) (answer : Result (Option ℕ) ℕ) (list : List ℕ) → t ≡ s → Reports s.setup a b n answer list → Reports t.setup a b n answer list
-handed_route a b n answer list e h = rw e h
+pub handed_route : {s t : Start} (a b n : ℕ) (answer : Result (Option ℕ) ℕ) (pair : ℕ × ℕ) (list : List ℕ) → t ≡ s
+    → Reports s.setup a b n answer pair list → Reports t.setup a b n answer pair list
+handed_route a b n answer pair list e h = rw e h

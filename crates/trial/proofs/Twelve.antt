@@ -109,8 +109,8 @@ unfolding computes
 all_come_out =
     on_q _ _ refl refl then on_q _ _ refl refl then on_q _ _ refl refl then on_q _ _ refl refl then on_q _ _ refl refl
     then on_q _ _ refl refl then on_q _ _ refl refl then on_q _ _ refl refl then on_eight _ _ refl refl
-    then on_eight _ _ refl refl then (refl, refl) then (refl, refl) then on_q _ _ refl refl then on_q _ _ refl refl then (refl, refl)
-    then (refl, refl) then (refl, refl) then (refl, refl) then (on_used _ _ refl refl, in_use_stays) then on_used _ _ refl refl then tt
+    then on_eight _ _ refl refl then (refl, refl, refl) then (refl, refl, refl) then on_q _ _ refl refl then on_q _ _ refl refl then (refl, refl, refl)
+    then (refl, refl, refl) then (refl, refl, refl) then (refl, refl, refl) then (on_used _ _ refl refl, in_use_stays) then on_used _ _ refl refl then tt
 
 -- so each does, by its place in the table
 at_place : (table : List Case) → EachComesOut table → (k : ℕ) → k < length table → ComesOut (get_or table k case1)

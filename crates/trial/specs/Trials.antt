@@ -4,6 +4,7 @@ use Rattle.rules.specs.Sizes.{most_number}
 use Rattle.rules.specs.Setups.{SetupBytes, setup_bytes}
 use Rattle.rules.specs.Stores.{blank_content, put_holder, put_content, put_mark, fresh_store}
 use Rattle.rules.specs.Calls.{numbers, written_to, code_of_close, code_of_testlock, calls_in, in_quads}
+use Rattle.rules.specs.Answers.{told_numbers_of}
 use Rattle.rules.specs.Entries.{acceptance}
 use Rattle.rules.specs.declared.Numbers.{Numbers}
 use Rattle.rules.specs.declared.Setup.{Setup}
@@ -33,9 +34,9 @@ testlock_call p f = numbers code_of_testlock p f 0
 pub data Case : Type 0 where
   -- from a store a list of calls: the pair of each call's answer, and the store that is left where 01 names it
   calls : SetupBytes → Store → List Numbers → List (ℕ × ℕ) → Option Store → Case
-  -- from a desk to a desk a route, with room for so many numbers: the number of calls, none for no route, or the refusal's number; and the
-  -- numbers of the list that is written
-  route : SetupBytes → ℕ → ℕ → ℕ → Result (Option ℕ) ℕ → List ℕ → Case
+  -- from a desk to a desk a route, with room for so many numbers: the number of calls, none for no route, or the refusal's number; the pair
+  -- of this answer; and the numbers of the list that is written
+  route : SetupBytes → ℕ → ℕ → ℕ → Result (Option ℕ) ℕ → ℕ × ℕ → List ℕ → Case
 
 -- 1: "Q, fresh, process 1 opens and reads file 0"; "Cases 1 and 2 now end in "nothing""
 abbrev pub case1 : Case
@@ -80,12 +81,12 @@ case8b = calls setup8 fresh_store (lock_call 1 0 ∷ testlock_call 1 0 ∷ []) (
 
 -- "though no link runs from desk 0": so there is no route to desk 1
 abbrev pub case8c : Case
-case8c = route setup8 0 1 244 (Ok None) []
+case8c = route setup8 0 1 244 (Ok None) (0, 0) []
 
 -- 9: "Q, route 0 to 2: 9 calls, the program case below."
 abbrev pub case9a : Case
 case9a =
-    route setup_q 0 2 244 (Ok (Some 9))
+    route setup_q 0 2 244 (Ok (Some 9)) (1, 9)
     (3 ∷ 0 ∷ 0 ∷ 0 ∷
     2 ∷ 0 ∷ 0 ∷ 1 ∷
     4 ∷ 0 ∷ 0 ∷ 0 ∷
@@ -114,7 +115,7 @@ case9c =
 -- 10: "Q, route 0 to 1: 5 calls. Route 2 to 0: none."
 abbrev pub case10a : Case
 case10a =
-    route setup_q 0 1 244 (Ok (Some 5))
+    route setup_q 0 1 244 (Ok (Some 5)) (1, 5)
     (3 ∷ 0 ∷ 0 ∷ 0 ∷
     2 ∷ 0 ∷ 0 ∷ 1 ∷
     4 ∷ 0 ∷ 0 ∷ 0 ∷
@@ -122,14 +123,14 @@ case10a =
     1 ∷ 1 ∷ 0 ∷ 0 ∷ [])
 
 abbrev pub case10b : Case
-case10b = route setup_q 2 0 244 (Ok None) []
+case10b = route setup_q 2 0 244 (Ok None) (0, 0) []
 
 -- 11: "Q, route 1 to 1: refusal 13. With room 243, route 0 to 2: refusal 11."
 abbrev pub case11a : Case
-case11a = route setup_q 1 1 244 (Err 13) []
+case11a = route setup_q 1 1 244 (Err 13) (4, 13) []
 
 abbrev pub case11b : Case
-case11b = route setup_q 0 2 243 (Err 11) []
+case11b = route setup_q 0 2 243 (Err 11) (4, 11) []
 
 -- 12: "An empty list gives no answers and the same store."
 abbrev pub case12 : Case
@@ -171,17 +172,18 @@ Answers s m list answers =
 unfoldable pub Leaves : Setup → Store → List ℕ → Store → Type 0
 Leaves s m list left = (listed s m list answers_room).1 ≡ left
 
--- the report answers, and the room holds its list
-unfoldable pub Reports : Setup → ℕ → ℕ → ℕ → Result (Option ℕ) ℕ → List ℕ → Type 0
-Reports s a b n answer list =
-    (routed s a b n ≡ answer) × (routes.room_after s a b (room_of n) ≡ written_into list (room_of n))
+-- the report answers, its two numbers are the pair, and the room holds its list
+unfoldable pub Reports : Setup → ℕ → ℕ → ℕ → Result (Option ℕ) ℕ → ℕ × ℕ → List ℕ → Type 0
+Reports s a b n answer pair list =
+    (routed s a b n ≡ answer) × (told_numbers_of (routed s a b n) ≡ pair)
+    × (routes.room_after s a b (room_of n) ≡ written_into list (room_of n))
 
 -- the case comes out so
 abbrev pub ComesOut : Case → Type 0
 ComesOut (calls setup m list answers None) = Answers (acceptance setup).setup m (in_quads list) (in_pairs answers)
 ComesOut (calls setup m list answers (Some left)) =
     Answers (acceptance setup).setup m (in_quads list) (in_pairs answers) × Leaves (acceptance setup).setup m (in_quads list) left
-ComesOut (route setup a b n answer list) = Reports (acceptance setup).setup a b n answer list
+ComesOut (route setup a b n answer pair list) = Reports (acceptance setup).setup a b n answer pair list
 
 -- each case of a table does
 abbrev pub EachComesOut : List Case → Type 0

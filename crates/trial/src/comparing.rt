@@ -10,7 +10,7 @@ use crate::starting::Start;
 use lists::running::run;
 use routes::ROUTE_NUMBERS;
 use routes::report::report;
-use rules::{CALL_WIDTH, Refusal, Store};
+use rules::{CALL_WIDTH, Numbered, Refusal, Store};
 
 // What a lent room holds before it is written to.
 const UNTOUCHED: u32 = u32::MAX;
@@ -56,21 +56,25 @@ impl Start {
         self.left_by(calls) == left
     }
 
-    // Whether the report, lent an untouched room for n numbers, answers so and writes the list.
+    // Whether the report, lent an untouched room for n numbers, answers so, as a Result and as two numbers, and writes the list.
     pub fn reports(
         &self,
         a: u32,
         b: u32,
         n: usize,
         expected: Result<Option<u32>, Refusal>,
+        kind: u32,
+        value: u32,
         list: &[u32],
     ) -> bool
         requires { n ≤ most_route_numbers }
-        ensures { (result ≡ true) ↔ Reports self.now.setup a b n (numbered expected) list.now }
+        ensures { (result ≡ true) ↔ Reports self.now.setup a b n (numbered expected) (kind, value) list.now }
     {
         let mut room = [UNTOUCHED; ROUTE_NUMBERS];
         let lent = &mut room[..n];
         let answer = report(self.setup, a, b, lent);
-        (answer == expected) & holds(lent, list)
+        let told = Numbered::from(answer);
+        let numbers = (told.kind == kind) & (told.value == value);
+        numbers & (answer == expected) & holds(lent, list)
     }
 }

@@ -51,13 +51,13 @@ fn case_8() {
     let eight = Start::eight();
     expect(eight.answers(&[5, 0, 0, 0, 3, 1, 0, 0, 7, 1, 0, 0], &[0, 0, 0, 0, 2, 0]));
     expect(eight.answers(&[3, 1, 0, 0, 7, 1, 0, 0], &[0, 0, 2, 0]));
-    expect(eight.reports(0, 1, ROUTE_NUMBERS, Ok(None), &[]));
+    expect(eight.reports(0, 1, ROUTE_NUMBERS, Ok(None), 0, 0, &[]));
 }
 
 // The report's list, its answers, and its answers with the first three calls removed.
 fn case_9() {
     let q = Start::q();
-    expect(q.reports(0, 2, ROUTE_NUMBERS, Ok(Some(9)), &NINE));
+    expect(q.reports(0, 2, ROUTE_NUMBERS, Ok(Some(9)), 1, 9, &NINE));
     expect(q.answers(
         &NINE,
         &[0, 0, 0, 0, 0, 0, 0, 0, 0, 0, 0, 0, 0, 0, 0, 0, 1, 1],
@@ -73,12 +73,14 @@ fn cases_10_and_11() {
         1,
         ROUTE_NUMBERS,
         Ok(Some(5)),
+        1,
+        5,
         &[3, 0, 0, 0, 2, 0, 0, 1, 4, 0, 0, 0, 5, 1, 0, 0, 1, 1, 0, 0],
     ));
-    expect(q.reports(2, 0, ROUTE_NUMBERS, Ok(None), &[]));
+    expect(q.reports(2, 0, ROUTE_NUMBERS, Ok(None), 0, 0, &[]));
     // 11: two equal desks: refusal 13; a room of 243: refusal 11.
-    expect(q.reports(1, 1, ROUTE_NUMBERS, Err(Refusal::SameDesk), &[]));
-    expect(q.reports(0, 2, SHORT_ROOM, Err(Refusal::TooLittleRoom), &[]));
+    expect(q.reports(1, 1, ROUTE_NUMBERS, Err(Refusal::SameDesk), 4, 13, &[]));
+    expect(q.reports(0, 2, SHORT_ROOM, Err(Refusal::TooLittleRoom), 4, 11, &[]));
 }
 
 fn cases_in_use() {

@@ -15,4 +15,4 @@ unfolding in_quads in_pairs
 expect-requires-2 c = c.answers-2.ensures.1 (handed_on _ _ c.eight-eight.ensures (comes_out 9 (omega arith)))
 
 pub expect-requires-3 : goal.expect-requires-3
-expect-requires-3 c = c.reports.ensures.1 (handed_route _ _ _ _ _ c.eight-eight.ensures (comes_out 10 (omega arith)))
+expect-requires-3 c = c.reports.ensures.1 (handed_route _ _ _ _ _ _ c.eight-eight.ensures (comes_out 10 (omega arith)))

@@ -7,7 +7,7 @@ use Rattle.trial.proofs.Twelve.{comes_out}
 use Rattle.trial.proofs.case_9.Goals as goal
 
 pub expect-requires : goal.expect-requires
-expect-requires c = c.reports.ensures.1 (handed_route _ _ _ _ _ c.q-q.ensures (comes_out 11 (omega arith)))
+expect-requires c = c.reports.ensures.1 (handed_route _ _ _ _ _ _ c.q-q.ensures (comes_out 11 (omega arith)))
 
 pub expect-requires-2 : goal.expect-requires-2
 unfolding in_quads in_pairs

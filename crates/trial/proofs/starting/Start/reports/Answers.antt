@@ -10,5 +10,6 @@ pub returns : goal.returns
 returns c =
     let a = c.args in
     let told = c.report-answer in
-    reports_told a.self.now.setup a.a a.b a.n told.result a.expected (take a.n (room_of most_route_numbers)) told.new.room a.list.now c.eq.result c.holds.result
-    (take-replicate a.n most_route_numbers untouched c.requires) told.ensures.value told.ensures.room told.auto.room (search rules) c.holds.ensures
+    reports_told a.self.now.setup a.a a.b a.n told.result a.expected c.from-told.result a.kind a.value (take a.n (room_of most_route_numbers))
+    told.new.room a.list.now c.eq.result c.holds.result (take-replicate a.n most_route_numbers untouched c.requires) told.ensures.value
+    c.from-told.ensures told.ensures.room told.auto.room (search rules) c.holds.ensures
